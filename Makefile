@@ -1,0 +1,5 @@
+# make test: everything, from nothing, ending in 'N passed, 0 failed'.
+.PHONY: test
+
+test:
+	@tests/all

@@ -1,0 +1,24 @@
+-- What is known of a mapping that fits, for those who may not look into the shut definitions: by the chip of its length it
+-- is `fitsAs`, and without one it does not fit. Assumes nothing.
+use mathlib.Core.Path.{_≡_, refl}
+use mathlib.Core.Bool.{false, _&&_}
+use Prim.Native.Nat.{ℕ}
+use lib.Dec.{eqb}
+use Rattle.chip.specs.declared.Chip.{Chip}
+use Rattle.chip.specs.declared.ChipOf.the-variants.{Known, Unknown}
+use Rattle.chip.specs.declared.Mapping.{Mapping}
+use Rattle.chip.specs.Figures.{layoutOf, fromLen}
+use Rattle.chip.specs.Fits.{fitsAs, fitsOwn, fits}
+
+module _ (m : Mapping) where
+  pub own-known : (k : Chip) → fromLen (m .len) ≡ Known k → fitsOwn m ≡ fitsAs (layoutOf k) m
+  unfolding fitsOwn
+  own-known k e = rw e
+
+  pub own-unknown : fromLen (m .len) ≡ Unknown → fitsOwn m ≡ false
+  unfolding fitsOwn
+  own-unknown e = rw e
+
+  pub fits-is : (n : ℕ) → fits n m ≡ (eqb (m .len) n && fitsOwn m)
+  unfolding fits
+  fits-is n = refl

@@ -1,0 +1,5 @@
+pub mod Figures
+pub mod Blocks
+pub mod Search
+pub mod Fits
+pub mod Answers

@@ -1,0 +1,47 @@
+-- Laws of a table of a function's values: its length, its elements, and two tables that agree. Assumes nothing.
+use mathlib.Core.Path.{_≡_, refl, sym, ap, _∙_}
+use Prim.Native.Nat.{ℕ, zero, suc, _<_}
+use native.Mathlib.Decide.{ℕ-discrete}
+use native.Mathlib.Nat.{le-of-suc-le-suc, not-suc-le-zero}
+use lib.ListN.{length, getD, set, replicate, length-set, length-replicate, getD-replicate}
+use lib.Seq.{ext-getD, getD-set-same, getD-set-other}
+use Rattle.lists.specs.Words.{tabulate}
+
+module _ {ℓ} {A : Type ℓ} where
+  pub length-tabulate : (f : ℕ → A) (n : ℕ) → length (tabulate f n) ≡ n
+  length-tabulate f zero = refl
+  length-tabulate f (suc n) = ap suc (length-tabulate (λ i. f (suc i)) n)
+
+  pub getD-tabulate : (f : ℕ → A) (n i : ℕ) (d : A) → i < n → getD (tabulate f n) i d ≡ f i
+  getD-tabulate f zero i d h = absurd (not-suc-le-zero h)
+  getD-tabulate f (suc n) zero d h = refl
+  getD-tabulate f (suc n) (suc i) d h = getD-tabulate (λ j. f (suc j)) n i d (le-of-suc-le-suc h)
+
+  pub tabulate-ext : (f g : ℕ → A) (n : ℕ) → ((i : ℕ) → i < n → f i ≡ g i) → tabulate f n ≡ tabulate g n
+  tabulate-ext f g n h =
+      ext-getD (f 0) (tabulate f n) (tabulate g n) (length-tabulate f n ∙ sym (length-tabulate g n))
+      (λ i b. let k : i < n = rw length-tabulate at b in
+      getD-tabulate f n i (f 0) k ∙ h i k ∙ sym (getD-tabulate g n i (f 0) k))
+
+  -- the same value everywhere
+  pub tabulate-same : (f : ℕ → A) (n : ℕ) (a : A) → ((i : ℕ) → i < n → f i ≡ a) → replicate n a ≡ tabulate f n
+  tabulate-same f n a h =
+      ext-getD a (replicate n a) (tabulate f n) (length-replicate n a ∙ sym (length-tabulate f n))
+      (λ i b.
+      let k : i < n = rw length-replicate at b in
+      getD-replicate n i a a k ∙ sym (h i k) ∙ sym (getD-tabulate f n i a k))
+
+  -- a store into a table, where the other values stay
+  pub tabulate-set
+      : (f g : ℕ → A) (n x : ℕ) (a : A)
+      → x < n → g x ≡ a → ((i : ℕ) → i < n → (i ≡ x → ⊥) → f i ≡ g i) → set (tabulate f n) x a ≡ tabulate g n
+  tabulate-set f g n x a hx e h =
+      ext-getD a (set (tabulate f n) x a) (tabulate g n) (size ∙ sym (length-tabulate g n))
+      (λ i b. let k : i < n = rw size at b in go i k (ℕ-discrete i x) ∙ sym (getD-tabulate g n i a k))
+    where
+      size : length (set (tabulate f n) x a) ≡ n
+      size = length-set (tabulate f n) x a ∙ length-tabulate f n
+
+      go : (i : ℕ) → i < n → Dec (i ≡ x) → getD (set (tabulate f n) x a) i a ≡ g i
+      go i k (yes d) = rw d (getD-set-same (tabulate f n) x a a (rw length-tabulate hx) ∙ sym e)
+      go i k (no d) = getD-set-other (tabulate f n) x i a a d ∙ getD-tabulate f n i a k ∙ h i k d
