@@ -1,3 +1,4 @@
 pub mod Layouts
 pub mod Searches
 pub mod Onto
+pub mod Numbers

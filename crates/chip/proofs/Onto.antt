@@ -17,13 +17,7 @@ use Rattle.lists.proofs.Pigeons.{onto}
 use Rattle.chip.specs.declared.Mapping.{Mapping}
 use Rattle.chip.specs.Figures.{Layout, virtuals}
 use Rattle.chip.specs.Blocks.{numberAt, records}
-use Rattle.chip.specs.Fits.{inside, appeared, placed, eachOnce}
-
--- the numbers of the first n blocks lie in 1..n, and no two are the same
-pub record Apart (m : Mapping) (n : ℕ) : Type 0 where
-  pub low : (v : ℕ) → v < n → 1 ≤ numberAt m v
-  pub high : (v : ℕ) → v < n → numberAt m v ≤ n
-  pub apart : (u v : ℕ) → u < n → v < n → numberAt m u ≡ numberAt m v → u ≡ v
+use Rattle.chip.specs.Fits.{inside, appeared, placed, eachOnce, Apart}
 
 module _ (m : Mapping) where
   appeared-hit : (v n : ℕ) → appeared m v n ≡ true → Hit (λ u. eqb (numberAt m u) n) v (last (λ u. eqb (numberAt m u) n) v)
@@ -98,17 +92,17 @@ module _ (m : Mapping) where
   -- ---- what the definition says of a layout with V = P − 1
 
   module _ (l : Layout) (some : 1 ≤ l .p) where
-    placed-inside : (v : ℕ) → placed l m v ≡ true → (1 ≤ numberAt m v) × (numberAt m v < l .p)
+    placed-inside : (v : ℕ) → placed (l .p) m v ≡ true → (1 ≤ numberAt m v) × (numberAt m v < l .p)
     unfolding placed
     placed-inside v e =
-        let i = and-left (inside l (numberAt m v)) _ e in
+        let i = and-left (inside (l .p) (numberAt m v)) _ e in
         (leb-true _ _ (and-left _ _ i), ltb-true _ _ (and-right (leb 1 (numberAt m v)) _ i))
 
-    placed-new : (v u : ℕ) → placed l m v ≡ true → u < v → numberAt m u ≡ numberAt m v → ⊥
+    placed-new : (v u : ℕ) → placed (l .p) m v ≡ true → u < v → numberAt m u ≡ numberAt m v → ⊥
     unfolding placed
     placed-new v u e h d =
         not-both (hit-appeared v (numberAt m v) u h d)
-        (not-true _ (and-right (inside l (numberAt m v)) _ e))
+        (not-true _ (and-right (inside (l .p) (numberAt m v)) _ e))
 
     pub once-apart : eachOnce l m ≡ true → Apart m (virtuals l)
     once-apart e =
@@ -121,15 +115,15 @@ module _ (m : Mapping) where
               (λ p. absurd (placed-new u v (at u hu) p (sym d)));
         }
       where
-        at : (v : ℕ) → v < virtuals l → placed l m v ≡ true
-        at v h = all-at (placed l m) (virtuals l) v e h
+        at : (v : ℕ) → v < virtuals l → placed (l .p) m v ≡ true
+        at v h = all-at (placed (l .p) m) (virtuals l) v e h
 
     pub apart-once : Apart m (virtuals l) → eachOnce l m ≡ true
     unfolding placed
     apart-once a =
-        all-by (placed l m) (virtuals l)
+        all-by (placed (l .p) m) (virtuals l)
         (λ v h.
-        and-both (inside l (numberAt m v)) (not (appeared m v (numberAt m v)))
+        and-both (inside (l .p) (numberAt m v)) (not (appeared m v (numberAt m v)))
         (and-both (leb 1 (numberAt m v)) (ltb (numberAt m v) (l .p)) (le-leb 1 (numberAt m v) (a .low v h))
         (lt-ltb (numberAt m v) (l .p) (omega (arith, a .high v h))))
         (fresh v h))

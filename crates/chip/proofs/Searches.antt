@@ -1,11 +1,11 @@
--- A turn of a search that goes up: it stops at a hit, goes on at a miss, and finds nothing where none are left.
--- Assumes nothing.
-use mathlib.Core.Path.{_≡_, _∙_}
+-- A turn of a search that goes up: it stops at a hit, goes on at a miss, and finds nothing where none are left; and the
+-- same for a loop that has come to some place. Assumes nothing.
+use mathlib.Core.Path.{_≡_, sym, _∙_}
 use mathlib.Core.Bool.{Bool, true, false}
 use Prim.Native.Nat.{ℕ, suc, _+_, _-_, _<_, _≤_}
 use native.Mathlib.Omega.{arith}
 use Rattle.chip.specs.declared.Found.the-variants.{At, Nothing}
-use Rattle.chip.specs.Search.{firstFrom}
+use Rattle.chip.specs.Search.{firstFrom, firstOf}
 
 module _ (f : ℕ → Bool) (i n : ℕ) where
   turn : i < n → firstFrom f i (n - i) ≡ firstFrom f i (suc (n - (i + 1)))
@@ -22,3 +22,23 @@ module _ (f : ℕ → Bool) (i n : ℕ) where
   pub first-ends : n ≤ i → firstFrom f i (n - i) ≡ Nothing
   unfolding firstFrom
   first-ends h = let e : n - i ≡ 0 = omega arith in rw e
+
+-- A search of 0, .., n - 1 that has come to p: what it finds is what it finds from there on.
+module _ (f : ℕ → Bool) (n : ℕ) where
+  abbrev pub Sought : ℕ → Type 0
+  Sought p = firstOf f n ≡ firstFrom f p (n - p)
+
+  pub sought-none : Sought 0
+  sought-none = let e : n - 0 ≡ n = omega arith in rw e
+
+  pub sought-at : (p q : ℕ) → Sought p → p ≡ q → Sought q
+  sought-at p q s e = rw e at s
+
+  pub sought-more : (p q : ℕ) → Sought p → p < n → f p ≡ false → q ≡ p + 1 → Sought q
+  sought-more p q s h t e = rw e (s ∙ first-goes f p n h t)
+
+  pub sought-hit : (p : ℕ) → Sought p → p < n → f p ≡ true → At p ≡ firstOf f n
+  sought-hit p s h t = sym (s ∙ first-stops f p n h t)
+
+  pub sought-end : (p : ℕ) → Sought p → n ≤ p → Nothing ≡ firstOf f n
+  sought-end p s h = sym (s ∙ first-ends f p n h)

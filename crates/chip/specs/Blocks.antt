@@ -1,15 +1,15 @@
 -- The mapping, its parts and its setters, from 01, "Opening", last paragraph. A record that is read past the 256 is the
 -- blank one, which is the checker's reading of an array too. Assumes nothing.
-use mathlib.Core.Bool.{Bool, true, false}
+use mathlib.Core.Bool.{Bool, true, false, not}
 use mathlib.Core.List.{List}
 use Prim.Native.Nat.{ℕ, _*_}
 use lib.ListN.{getD, set, replicate}
-use Rattle.lists.specs.Words.{splice, rep}
+use Rattle.lists.specs.Words.{splice, rep, howMany}
 use Rattle.chip.specs.declared.Block.{Block}
 use Rattle.chip.specs.declared.Condition.{Condition}
 use Rattle.chip.specs.declared.Condition.the-variants.{Free, Clean, Changed}
 use Rattle.chip.specs.declared.Mapping.{Mapping}
-use Rattle.chip.specs.Figures.{layoutOf, sectors, saveLen, fromLen, byChip}
+use Rattle.chip.specs.Figures.{layoutOf, virtuals, sectors, saveLen, fromLen, byChip}
 
 -- "one of three conditions: free, clean, or changed since the last commit"
 abbrev pub isFree : Condition → Bool
@@ -61,3 +61,7 @@ withTickets m v t = mappingOf (m .len) (m .blocks) (splice (m .tickets) (v * sec
 -- "`len` gives the save bytes of the mapping's length, and 0 for a length that isn't one of the three"
 unfoldable pub lenOf : Mapping → ℕ
 lenOf m = byChip (fromLen (m .len)) (λ k. saveLen (layoutOf k)) 0
+
+-- the number of in-use blocks among the first V
+unfoldable pub inUseOf : Mapping → ℕ
+inUseOf m = byChip (fromLen (m .len)) (λ k. howMany (λ v. not (freeAt m v)) (virtuals (layoutOf k))) 0

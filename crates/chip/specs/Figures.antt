@@ -50,6 +50,10 @@ headerLen = 8
 abbrev pub inUseBit : ℕ
 inUseBit = 0x80
 
+-- "journal area 0xFF", "a free block reads as 0xFF"
+abbrev pub erased : ℕ
+erased = 0xFF
+
 -- two bytes, and on large chips "no tickets"; on small ones "then 8 tickets"
 abbrev pub largeItem : ℕ
 largeItem = 2

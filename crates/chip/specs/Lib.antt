@@ -3,3 +3,4 @@ pub mod Blocks
 pub mod Search
 pub mod Fits
 pub mod Answers
+pub mod Outcomes

@@ -4,11 +4,13 @@
 // `blank`, `new` and the two setters make one.
 ghost use mathlib.Core.Path.{_≡_};
 ghost use Prim.Native.Nat.{_+_, _<_, _≤_};
-ghost use Rattle.lists.specs.Words.{tabulate};
+ghost use mathlib.Core.Bool.{not};
+ghost use Rattle.lists.specs.Words.{pick, tabulate, howMany};
 ghost use Rattle.chip.specs.Figures.{layoutOf, blockLen, imageLen, virtuals, itemLen, mapLen, journalAt, slotCount, saveLen, fromLen};
-ghost use Rattle.chip.specs.Blocks.{isFree, records, blank, mappingOf, withBlock, withTickets, lenOf};
+ghost use Rattle.chip.specs.Blocks.{isFree, freeAt, records, blank, mappingOf, withBlock, withTickets, lenOf, inUseOf};
 ghost use Rattle.chip.specs.Fits.{appeared, eachOnce, reservedFree, fitsOwn, fits};
 ghost use Rattle.chip.specs.Answers.{numberOf, answerPlace, inSave, highCountOn, highCount};
+ghost use Rattle.chip.specs.Outcomes.{outcome, refused};
 
 // The kinds of chip.
 pub enum Chip {
@@ -40,6 +42,8 @@ impl Chip {
     pub const SMALL_ITEM: usize = 2 + Chip::SECTORS;
     // The bit of an item's first byte that says that the block is in use; the other seven are a number or a count.
     pub const IN_USE: u8 = 0x80;
+    // What an erased byte reads as: the bytes of a free block and of an unused journal slot.
+    pub const ERASED: u8 = 0xFF;
     // As many block records as a byte can name.
     pub const RECORDS: usize = 256;
 
@@ -168,6 +172,18 @@ impl Condition {
             Condition::Changed => false,
         }
     }
+
+    // 1 for a block that is in use, else 0.
+    fn in_use(self) -> usize
+        ensures { λ r. ⌜ r ≡ pick (not (isFree self)) 1 0 ⌝ }
+        ensures within { λ r. ⌜ r ≤ 1 ⌝ }
+    {
+        match self {
+            Condition::Free => 0,
+            Condition::Clean => 1,
+            Condition::Changed => 1,
+        }
+    }
 }
 
 // What a mapping holds of one virtual block.
@@ -263,6 +279,33 @@ impl Mapping {
             ChipOf::Unknown => 0,
         }
     }
+    // The number of in-use blocks among the first V of this chip.
+    fn in_use_on(self, kind: Chip) -> usize
+        ensures { λ r. ⌜ r ≡ howMany (λ v. not (freeAt self v)) (virtuals (layoutOf kind)) ⌝ }
+    {
+        let v = Chip::virtual_blocks(kind);
+        let mut used: usize = 0;
+        let mut u: usize = 0;
+        while u < v {
+            let b = self.blocks[u];
+            let condition = b.condition;
+            used += condition.in_use();
+            u += 1;
+        }
+        used
+    }
+
+    // The number of in-use blocks among the first V; 0 for a length that is no chip's.
+    pub fn in_use(self) -> usize
+        ensures { λ r. ⌜ r ≡ inUseOf self ⌝ }
+    {
+        let known = Chip::from_len(self.len);
+        match known {
+            ChipOf::Known(kind) => self.in_use_on(kind),
+            ChipOf::Unknown => 0,
+        }
+    }
+
     // Which physical numbers the first V blocks have, as 256 flags.
     fn seen_numbers(self, kind: Chip) -> [bool; Chip::RECORDS]
         ensures { λ r. ⌜ r ≡ tabulate (appeared self (virtuals (layoutOf kind))) records ⌝ }
@@ -295,7 +338,7 @@ impl Mapping {
     }
 
     // Whether the reserved block, the last virtual one, is free.
-    fn reserved_free(self, kind: Chip) -> bool
+    pub fn reserved_free(self, kind: Chip) -> bool
         ensures { λ r. ⌜ r ≡ reservedFree (layoutOf kind) self ⌝ }
     {
         let last = Chip::virtual_blocks(kind) - 1;
@@ -423,4 +466,25 @@ impl Answer {
 pub struct Outcome {
     pub answer: Answer,
     pub mapping: Mapping,
+}
+
+impl Outcome {
+    pub fn accepted(mapping: Mapping) -> Outcome
+        ensures { λ r. ⌜ r ≡ outcome Answer.Accepted mapping ⌝ }
+    {
+        Outcome {
+            answer: Answer::Accepted,
+            mapping: mapping,
+        }
+    }
+
+    // A refused open, with the blank mapping.
+    pub fn refused(answer: Answer) -> Outcome
+        ensures { λ r. ⌜ r ≡ refused answer ⌝ }
+    {
+        Outcome {
+            answer: answer,
+            mapping: Mapping::blank(),
+        }
+    }
 }

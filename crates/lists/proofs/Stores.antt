@@ -1,21 +1,28 @@
 -- What a loop has stored after some turns: a copy or a fill that grows as a splice, and a list whose first elements a
--- function was put to. Each has a start, a turn and an end. Assumes nothing.
+-- function was put to. Each has a start, a turn and an end. Last, a lent part that
+-- came back filled. Assumes nothing.
 use mathlib.Core.Path.{_≡_, refl, sym, ap, _∙_, subst}
 use mathlib.Core.List.{List, [], _∷_, _++_, map}
-use Prim.Native.Nat.{ℕ, zero, suc, _+_, _≤_, _<_}
-use native.Mathlib.Nat.{le-of-suc-le-suc, not-suc-le-zero, add-sub-cancel-left}
+use Prim.Native.Nat.{ℕ, zero, suc, _+_, _-_, _≤_, _<_}
+use native.Mathlib.Nat.{le-of-suc-le-suc, not-suc-le-zero, add-sub-cancel-left, zero-add}
 use native.Mathlib.Numerals.{add-one}
 use native.Mathlib.Omega.{arith}
+use borrow.Rule.Slice.PartMut.{putMid, midOf}
 use lib.ListN.{length, take, getD, set, length-take, length-replicate, replicate, replicate-append-replicate}
 use lib.Seq.{slice, slice-empty, length-slice, length-take-le, take-suc, drop-append-le}
 use Rattle.lists.specs.Words.{splice}
-use Rattle.lists.proofs.Splice.{length-splice, splice-nil, splice-splice, set-splice}
+use Rattle.lists.proofs.Splice.{length-splice, splice-nil, splice-splice, set-splice, part-back}
+use Rattle.lists.proofs.Windows.{length-window}
 
 module _ {ℓ} {A : Type ℓ} where
   pub splice-snoc : (l : List A) (at : ℕ) (x : List A) (a : A) → at + length x < length l → set (splice l at x) (at + length x) a ≡ splice l at (x ++ (a ∷ []))
   splice-snoc l at x a h =
       set-splice (splice l at x) (at + length x) a (omega (arith, length-splice l at x (omega arith)))
       ∙ splice-splice a l at x (a ∷ []) (omega arith)
+
+  -- two stores side by side
+  pub set-two : (l : List A) (at : ℕ) (a b : A) → at + 2 ≤ length l → set (set l at a) (at + 1) b ≡ splice l at (a ∷ b ∷ [])
+  set-two l at a b h = rw (set-splice l at a (omega arith)) (splice-snoc l at (a ∷ []) b (omega arith))
 
   -- a loop that copies from the front: one more
   pub taken-more
@@ -57,6 +64,12 @@ module _ {ℓ} {A : Type ℓ} where
       subst (λ (n : ℕ). set (splice l at (replicate j a)) (at + n) a ≡ splice l at (replicate (j + 1) a)) e
       (splice-snoc l at (replicate j a) a (omega arith) ∙ ap (λ (r : List A). splice l at r) (replicate-append-replicate j 1 a))
 
+  -- the same, from the list's first element on
+  pub filled-front : (l : List A) (a : A) (j : ℕ) → j < length l → set (splice l 0 (replicate j a)) j a ≡ splice l 0 (replicate (j + 1) a)
+  filled-front l a j h =
+      subst (λ (n : ℕ). set (splice l 0 (replicate j a)) n a ≡ splice l 0 (replicate (j + 1) a)) (zero-add j)
+      (filled-more l 0 a j (omega arith))
+
   -- a loop that changes each element where it stands: f of the first i elements, and the others as they were
   abbrev pub mapTo : (A → A) → ℕ → List A → List A
   mapTo f zero l = l
@@ -88,3 +101,15 @@ module _ {ℓ} {A : Type ℓ} where
   mapTo-all f zero (x ∷ xs) h = absurd (not-suc-le-zero h)
   mapTo-all f (suc i) [] h = refl
   mapTo-all f (suc i) (x ∷ xs) h = ap (λ (r : List A). f x ∷ r) (mapTo-all f i xs (le-of-suc-le-suc h))
+
+-- a part `&mut l[a..e]` that was lent came back filled
+pub part-filled
+    : {A : Type 0} (l : List A) (a e : ℕ) (x : A) (ys : List A)
+    → a ≤ e → e ≤ length l → ys ≡ replicate (length (midOf a (e - a) l)) x → putMid a (e - a) l ys ≡ splice l a (replicate (e - a) x)
+part-filled l a e x ys h k q =
+    let n : length (midOf a (e - a) l) ≡ e - a = length-window a (e - a) l (omega arith) in
+    let d : ys ≡ replicate (e - a) x = rw n at q in
+    let s : a + (e - a) ≡ e = omega arith in
+    rw d
+    (subst (λ (i : ℕ). putMid a (i - a) l (replicate (e - a) x) ≡ splice l a (replicate (e - a) x)) s
+    (part-back l a (e - a) (replicate (e - a) x) (length-replicate (e - a) x)))

@@ -1,18 +1,24 @@
 -- Laws of a table of a function's values: its length, its elements, and two tables that agree. Assumes nothing.
 use mathlib.Core.Path.{_≡_, refl, sym, ap, _∙_}
-use Prim.Native.Nat.{ℕ, zero, suc, _<_}
+use mathlib.Core.List.{List}
+use Prim.Native.Nat.{ℕ, zero, suc, _+_, _<_}
 use native.Mathlib.Decide.{ℕ-discrete}
 use native.Mathlib.Nat.{le-of-suc-le-suc, not-suc-le-zero}
+use native.Mathlib.Omega.{arith}
+use borrow.Author.Tests.{lt-ltb, le-ltb}
 use lib.ListN.{length, getD, set, replicate, length-set, length-replicate, getD-replicate}
 use lib.Seq.{ext-getD, getD-set-same, getD-set-other}
-use Rattle.lists.specs.Words.{tabulate}
+use Rattle.lists.specs.Words.{tabulate, upTo}
+use Rattle.lists.proofs.Orders.{split}
 
 module _ {ℓ} {A : Type ℓ} where
   pub length-tabulate : (f : ℕ → A) (n : ℕ) → length (tabulate f n) ≡ n
+  unfolding tabulate
   length-tabulate f zero = refl
   length-tabulate f (suc n) = ap suc (length-tabulate (λ i. f (suc i)) n)
 
   pub getD-tabulate : (f : ℕ → A) (n i : ℕ) (d : A) → i < n → getD (tabulate f n) i d ≡ f i
+  unfolding tabulate
   getD-tabulate f zero i d h = absurd (not-suc-le-zero h)
   getD-tabulate f (suc n) zero d h = refl
   getD-tabulate f (suc n) (suc i) d h = getD-tabulate (λ j. f (suc j)) n i d (le-of-suc-le-suc h)
@@ -45,3 +51,26 @@ module _ {ℓ} {A : Type ℓ} where
       go : (i : ℕ) → i < n → Dec (i ≡ x) → getD (set (tabulate f n) x a) i a ≡ g i
       go i k (yes d) = rw d (getD-set-same (tabulate f n) x a a (rw length-tabulate hx) ∙ sym e)
       go i k (no d) = getD-set-other (tabulate f n) x i a a d ∙ getD-tabulate f n i a k ∙ h i k d
+
+  -- a table that a loop fills from the front: none yet, one more, and all
+  pub fill-none : (f : ℕ → A) (n : ℕ) (d : A) → replicate n d ≡ tabulate (upTo 0 f d) n
+  fill-none f n d = tabulate-same (upTo 0 f d) n d (λ i h. rw (le-ltb i 0 (omega arith)))
+
+  pub fill-more
+      : (f : ℕ → A) (n : ℕ) (d a : A) (i : ℕ)
+      → i < n → a ≡ f i → set (tabulate (upTo i f d) n) i a ≡ tabulate (upTo (i + 1) f d) n
+  fill-more f n d a i h e =
+      tabulate-set (upTo i f d) (upTo (i + 1) f d) n i a h (rw (lt-ltb i (i + 1) (omega arith)) (sym e))
+      (λ j k ne.
+      split i j
+      (λ p. rw (le-ltb j i p, le-ltb j (i + 1) (omega (arith, ne))))
+      (λ p. rw (lt-ltb j i p, lt-ltb j (i + 1) (omega arith))))
+
+  pub upTo-ext : (f g : ℕ → A) (n : ℕ) (d : A) → ((i : ℕ) → i < n → f i ≡ g i) → (i : ℕ) → upTo n f d i ≡ upTo n g d i
+  upTo-ext f g n d h i = split n i (λ p. rw (le-ltb i n p)) (λ p. rw (lt-ltb i n p) (h i p))
+
+  -- a list that has a table's values is the table
+  pub tabulate-list : (f : ℕ → A) (n : ℕ) (l : List A) (d : A) → length l ≡ n → ((i : ℕ) → i < n → f i ≡ getD l i d) → tabulate f n ≡ l
+  tabulate-list f n l d e h =
+      ext-getD d (tabulate f n) l (length-tabulate f n ∙ sym e)
+      (λ i b. let k : i < n = rw length-tabulate at b in getD-tabulate f n i d k ∙ h i k)

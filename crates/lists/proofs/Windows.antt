@@ -3,7 +3,7 @@
 use mathlib.Core.Path.{_≡_, refl, sym, ap, _∙_}
 use mathlib.Core.List.{List, [], _++_}
 use mathlib.Core.Logic.{_⊎_, inl, inr}
-use Prim.Native.Nat.{ℕ, _+_, _-_, _≤_, _<_}
+use Prim.Native.Nat.{ℕ, min, _+_, _-_, _≤_, _<_}
 use native.Mathlib.Omega.{arith}
 use lib.ListN.{length, take, drop, getD, length-append, length-take, length-drop, take-append-drop, drop-of-length-le}
 use lib.Seq.{getD-take, getD-drop, ext-getD, take-take, take-nil, take-add, slice, length-slice, length-take-le, drop-append-le, drop-at}
@@ -67,3 +67,17 @@ module _ {ℓ} {A : Type ℓ} where
   slice-ext z f t l r h e at =
       let k : length (slice f t l) ≡ t - f = length-slice f t l h in
       ext-getD z r (slice f t l) (e ∙ sym k) (λ i b. at i (omega arith) ∙ sym (getD-slice f t l i z (omega arith)))
+
+  -- two lists of one length that agree below n, or from n on
+  pub take-ext : (z : A) (n : ℕ) (l r : List A) → length l ≡ length r → ((i : ℕ) → i < n → getD l i z ≡ getD r i z) → take n l ≡ take n r
+  take-ext z n l r e at =
+      ext-getD z (take n l) (take n r) (length-take n l ∙ ap (min n) e ∙ sym (length-take n r))
+      (λ i b.
+      let c : i < min n (length l) = rw length-take at b in
+      let h : i < n = omega arith in
+      getD-take n l i z h ∙ at i h ∙ sym (getD-take n r i z h))
+
+  pub drop-ext : (z : A) (n : ℕ) (l r : List A) → length l ≡ length r → ((i : ℕ) → n ≤ i → getD l i z ≡ getD r i z) → drop n l ≡ drop n r
+  drop-ext z n l r e at =
+      ext-getD z (drop n l) (drop n r) (length-drop n l ∙ ap (λ (k : ℕ). k - n) e ∙ sym (length-drop n r))
+      (λ i b. getD-drop n l i z ∙ at (n + i) (omega arith) ∙ sym (getD-drop n r i z))

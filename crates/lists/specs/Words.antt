@@ -3,6 +3,7 @@
 use mathlib.Core.Bool.{Bool, true, false, _&&_, _||_}
 use mathlib.Core.List.{List, [], _∷_, _++_}
 use Prim.Native.Nat.{ℕ, zero, suc, _+_}
+use lib.Dec.{ltb}
 use lib.ListN.{length, take, drop, replicate}
 
 -- one of two values, by a test
@@ -11,9 +12,13 @@ pick true x y = x
 pick false x y = y
 
 -- f 0, f 1, .., f (n - 1)
-abbrev pub tabulate {ℓ} : {A : Type ℓ} → (ℕ → A) → ℕ → List A
+unfoldable pub tabulate {ℓ} : {A : Type ℓ} → (ℕ → A) → ℕ → List A
 tabulate f zero = []
 tabulate f (suc n) = f zero ∷ tabulate (λ i. f (suc i)) n
+
+-- f below n, and d from there on
+abbrev pub upTo {ℓ} : {A : Type ℓ} → ℕ → (ℕ → A) → A → ℕ → A
+upTo n f d i = pick (ltb i n) (f i) d
 
 -- the list with d in place of what stood from `at` on
 unfoldable pub splice {ℓ} : {A : Type ℓ} → List A → ℕ → List A → List A
@@ -32,3 +37,8 @@ all f (suc n) = all f n && f n
 unfoldable pub any : (ℕ → Bool) → ℕ → Bool
 any f zero = false
 any f (suc n) = any f n || f n
+
+-- of how many of 0 to n - 1 f holds
+unfoldable pub howMany : (ℕ → Bool) → ℕ → ℕ
+howMany f zero = 0
+howMany f (suc n) = howMany f n + pick (f n) 1 0

@@ -1,0 +1,5 @@
+pub mod Entries
+pub mod Moved
+pub mod Replay
+pub mod Steps
+pub mod Opened

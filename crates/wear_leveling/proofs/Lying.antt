@@ -1,0 +1,51 @@
+-- What steps 1 to 6 accept lies in the image: its physical numbers are below P, and the image has P blocks. Assumes nothing.
+use mathlib.Core.Path.{_≡_, sym, _∙_}
+use mathlib.Core.List.{List}
+use Prim.Native.Nat.{ℕ, _≤_}
+use native.Mathlib.Omega.{arith}
+use lib.ListN.{length, take}
+use lib.Seq.{length-take-le}
+use Rattle.chip.specs.declared.Answer.the-variants.{Accepted}
+use Rattle.chip.specs.declared.Chip.{Chip}
+use Rattle.chip.specs.declared.ChipOf.the-variants.{Known}
+use Rattle.chip.specs.declared.Mapping.{Mapping}
+use Rattle.chip.specs.declared.Outcome.{Outcome}
+use Rattle.chip.specs.Figures.{layoutOf, blockLen, imageLen, fromLen}
+use Rattle.chip.specs.Answers.{numberOf}
+use Rattle.chip.specs.Outcomes.{outcome}
+use Rattle.chip.proofs.Layouts.{sound, from-is}
+use Rattle.chip.proofs.Numbers.{zero-accepted}
+use Rattle.journal.specs.Steps.{steps1to6}
+use Rattle.journal.specs.Opened.{Opened, OpenedAs}
+use Rattle.journal.proofs.Accepted.{accepted-as}
+use Rattle.wear_leveling.specs.Tickets.{Lies, LiesIn}
+
+-- a mapping in good order lies in an image of its layout's length
+pub opened-lies
+    : (k : Chip) (m : Mapping) (image : List ℕ)
+    → Opened (layoutOf k) m → length image ≡ imageLen (layoutOf k) → Lies (layoutOf k) m image
+opened-lies k m image o e =
+    record {
+      within = λ v h. omega (arith, o .numbers .high v h, sound k .some);
+    }
+
+-- the outcome of steps 1 to 6 on an image's block zero, where its number is 0
+pub accepted-lies
+    : (image : List ℕ) (o : Outcome)
+    → blockLen ≤ length image
+    → o ≡ steps1to6 (take blockLen image) (length image)
+    → numberOf (o .answer) ≡ 0
+    → LiesIn (o .mapping) image
+accepted-lies image o h e n = record { lies = lies }
+  where
+    accepted : steps1to6 (take blockLen image) (length image) ≡ outcome Accepted (o .mapping)
+    accepted = sym e ∙ (λ i. outcome (zero-accepted (o .answer) n i) (o .mapping))
+
+    found : OpenedAs (length image) (o .mapping)
+    found = accepted-as (take blockLen image) (length image) (length-take-le blockLen image h) (o .mapping) accepted
+
+    lies : (k : Chip) → fromLen (length image) ≡ Known k → Lies (layoutOf k) (o .mapping) image
+    lies k q =
+        let d : Known k ≡ Known (found .chip) = sym q ∙ found .known in
+        let c : found .chip ≡ k = cc in
+        rw (← c) (opened-lies (found .chip) (o .mapping) image (found .opened) (from-is (length image) (found .chip) (found .known)))
