@@ -234,7 +234,7 @@ fn put_sum(image: &mut [u8], kind: Chip)
 }
 
 // Every byte becomes b.
-fn fill(part: &mut [u8], b: u8)
+pub fn fill(part: &mut [u8], b: u8)
     ensures { λ _. ⌜ now (part .exit) ≡ rep (length (now (part .entry))) b ⌝ }
 {
     let mut i: usize = 0;

@@ -12,7 +12,7 @@ use Rattle.lists.proofs.Orders.{by-test, not-both}
 use Rattle.chip.specs.declared.Chip.{Chip}
 use Rattle.chip.specs.declared.Chip.the-variants.{Kib128, Kib512, Mib1}
 use Rattle.chip.specs.declared.ChipOf.the-variants.{Known, Unknown}
-use Rattle.chip.specs.Figures.{Layout, layoutOf, blockLen, virtuals, smallItem, mapLen, imageLen, headerLen, chips, among, fromLen}
+use Rattle.chip.specs.Figures.{Layout, journalAt, slotLen, layoutOf, blockLen, virtuals, smallItem, mapLen, imageLen, headerLen, chips, among, fromLen}
 
 pub record Sound (l : Layout) : Type 0 where
   pub some : 2 ≤ l .p
@@ -24,13 +24,16 @@ sound Kib128 = record { some = omega arith; few = omega arith; small = λ e. ome
 sound Kib512 = record { some = omega arith; few = omega arith; small = λ e. omega arith }
 sound Mib1 = record { some = omega arith; few = omega arith; small = λ e. absurd (not-both refl e) }
 
--- the map and its sum lie in block zero
-pub map-fits : (l : Layout) → Sound l → mapLen l + 2 ≤ blockLen
-map-fits l s = go (l .large)
+-- the map, its sum and a first journal slot lie in block zero
+pub slot-fits : (l : Layout) → Sound l → journalAt l + slotLen ≤ blockLen
+slot-fits l s = go (l .large)
   where
-    go : (b : Bool) → pick b 0x3FE (headerLen + virtuals l * smallItem) + 2 ≤ blockLen
+    go : (b : Bool) → pick b 0x3FE (headerLen + virtuals l * smallItem) + 2 + slotLen ≤ blockLen
     go true = omega arith
     go false = omega (arith, s .few)
+
+pub map-fits : (l : Layout) → Sound l → mapLen l + 2 ≤ blockLen
+map-fits l s = omega (arith, slot-fits l s)
 
 -- a chip's own length leads back to it
 pub from-own : (k : Chip) → fromLen (imageLen (layoutOf k)) ≡ Known k

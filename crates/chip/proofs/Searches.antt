@@ -1,8 +1,8 @@
 -- A turn of a search that goes up: it stops at a hit, goes on at a miss, and finds nothing where none are left; and the
 -- same for a loop that has come to some place. Assumes nothing.
-use mathlib.Core.Path.{_≡_, sym, _∙_}
+use mathlib.Core.Path.{_≡_, refl, sym, _∙_}
 use mathlib.Core.Bool.{Bool, true, false}
-use Prim.Native.Nat.{ℕ, suc, _+_, _-_, _<_, _≤_}
+use Prim.Native.Nat.{ℕ, zero, suc, _+_, _-_, _<_, _≤_}
 use native.Mathlib.Omega.{arith}
 use Rattle.chip.specs.declared.Found.the-variants.{At, Nothing}
 use Rattle.chip.specs.Search.{firstFrom, firstOf}
@@ -42,3 +42,16 @@ module _ (f : ℕ → Bool) (n : ℕ) where
 
   pub sought-end : (p : ℕ) → Sought p → n ≤ p → Nothing ≡ firstOf f n
   sought-end p s h = sym (s ∙ first-ends f p n h)
+
+-- a search that misses everywhere finds nothing
+pub first-misses : (f : ℕ → Bool) (v n : ℕ) → ((i : ℕ) → v ≤ i → i < v + n → f i ≡ false) → firstFrom f v n ≡ Nothing
+unfolding firstFrom
+first-misses f v zero h = refl
+first-misses f v (suc n) h = rw (h v (omega arith) (omega arith)) (first-misses f (v + 1) n (λ i a b. h i (omega arith) (omega arith)))
+
+-- two searches by tests that agree
+pub first-ext : (f g : ℕ → Bool) (v n : ℕ) → ((i : ℕ) → v ≤ i → i < v + n → f i ≡ g i) → firstFrom f v n ≡ firstFrom g v n
+unfolding firstFrom
+first-ext f g v zero h = refl
+first-ext f g v (suc n) h =
+    rw (h v (omega arith) (omega arith), first-ext f g (v + 1) n (λ i a b. h i (omega arith) (omega arith)))

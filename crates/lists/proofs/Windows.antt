@@ -9,7 +9,7 @@ use lib.ListN.{length, take, drop, getD, length-append, length-take, length-drop
 use lib.Seq.{getD-take, getD-drop, ext-getD, take-take, take-nil, take-add, slice, length-slice, length-take-le, drop-append-le, drop-at}
 use Rattle.lists.specs.Words.{splice}
 use Rattle.lists.proofs.Orders.{split}
-use Rattle.lists.proofs.Splice.{length-splice, getD-splice-in, getD-splice-out}
+use Rattle.lists.proofs.Splice.{length-splice, splice-intro, getD-splice-below, getD-splice-in, getD-splice-above, getD-splice-out}
 
 module _ {ℓ} {A : Type ℓ} where
   pub length-window : (place n : ℕ) (l : List A) → place + n ≤ length l → length (take n (drop place l)) ≡ n
@@ -81,3 +81,22 @@ module _ {ℓ} {A : Type ℓ} where
   drop-ext z n l r e at =
       ext-getD z (drop n l) (drop n r) (length-drop n l ∙ ap (λ (k : ℕ). k - n) e ∙ sym (length-drop n r))
       (λ i b. getD-drop n l i z ∙ at (n + i) (omega arith) ∙ sym (getD-drop n r i z))
+
+  -- a splice that ends within the first n elements
+  pub take-splice-in
+      : (z : A) (n : ℕ) (l : List A) (at : ℕ) (d : List A)
+      → at + length d ≤ n → n ≤ length l → take n (splice l at d) ≡ splice (take n l) at d
+  take-splice-in z n l at d h k =
+      let e : length (take n l) ≡ n = length-take-le n l k in
+      let w : length (splice l at d) ≡ length l = length-splice l at d (omega arith) in
+      let f : length (take n (splice l at d)) ≡ n = length-take-le n (splice l at d) (omega arith) in
+      splice-intro z (take n (splice l at d)) (take n l) at d (omega arith) (f ∙ sym e)
+      (λ i b.
+      getD-take n (splice l at d) i z (omega arith)
+      ∙ getD-splice-below l at d i z (omega arith) b
+      ∙ sym (getD-take n l i z (omega arith)))
+      (λ j b. getD-take n (splice l at d) (at + j) z (omega arith) ∙ getD-splice-in l at d j z (omega arith) b)
+      (λ i b c.
+      getD-take n (splice l at d) i z (omega arith)
+      ∙ getD-splice-above l at d i z (omega arith) b
+      ∙ sym (getD-take n l i z (omega arith)))

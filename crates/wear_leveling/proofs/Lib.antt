@@ -1,2 +1,8 @@
 pub mod Sectors
 pub mod Lying
+pub mod Fitting
+pub mod ByBlocks
+pub mod Admission
+pub mod FittingW
+pub mod Visits
+pub mod Admitted
