@@ -6,9 +6,10 @@ use native.Mathlib.Decide.{ℕ-discrete}
 use native.Mathlib.Nat.{le-of-suc-le-suc, not-suc-le-zero}
 use native.Mathlib.Omega.{arith}
 use borrow.Author.Tests.{lt-ltb, le-ltb}
+use lib.Dec.{ltb}
 use lib.ListN.{length, getD, set, replicate, length-set, length-replicate, getD-replicate}
 use lib.Seq.{ext-getD, getD-set-same, getD-set-other}
-use Rattle.lists.specs.Words.{tabulate, upTo}
+use Rattle.lists.specs.Words.{pick, tabulate, upTo}
 use Rattle.lists.proofs.Orders.{split}
 
 module _ {ℓ} {A : Type ℓ} where
@@ -74,3 +75,25 @@ module _ {ℓ} {A : Type ℓ} where
   tabulate-list f n l d e h =
       ext-getD d (tabulate f n) l (length-tabulate f n ∙ sym e)
       (λ i b. let k : i < n = rw length-tabulate at b in getD-tabulate f n i d k ∙ h i k)
+
+  -- f below n, and g from there on
+  abbrev pub front : ℕ → (ℕ → A) → (ℕ → A) → ℕ → A
+  front n f g i = pick (ltb i n) (f i) (g i)
+
+  -- a list that a loop replaces from the front: none yet, the next as it still stands, and one more
+  pub front-none : (f : ℕ → A) (n : ℕ) (l : List A) (d : A) → length l ≡ n → l ≡ tabulate (front 0 f (λ i. getD l i d)) n
+  front-none f n l d e =
+      sym (tabulate-list (front 0 f (λ i. getD l i d)) n l d e (λ i h. rw (le-ltb i 0 (omega arith))))
+
+  pub front-next : (f g : ℕ → A) (n : ℕ) (d : A) (i : ℕ) → i < n → getD (tabulate (front i f g) n) i d ≡ g i
+  front-next f g n d i h = getD-tabulate (front i f g) n i d h ∙ rw (le-ltb i i (omega arith))
+
+  pub front-more
+      : (f g : ℕ → A) (n : ℕ) (a : A) (i : ℕ)
+      → i < n → a ≡ f i → set (tabulate (front i f g) n) i a ≡ tabulate (front (i + 1) f g) n
+  front-more f g n a i h e =
+      tabulate-set (front i f g) (front (i + 1) f g) n i a h (rw (lt-ltb i (i + 1) (omega arith)) (sym e))
+      (λ j k ne.
+      split i j
+      (λ p. rw (le-ltb j i p, le-ltb j (i + 1) (omega (arith, ne))))
+      (λ p. rw (lt-ltb j i p, lt-ltb j (i + 1) (omega arith))))

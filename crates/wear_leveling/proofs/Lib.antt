@@ -6,3 +6,6 @@ pub mod Admission
 pub mod FittingW
 pub mod Visits
 pub mod Admitted
+pub mod Renewed
+pub mod FittingC
+pub mod Commits

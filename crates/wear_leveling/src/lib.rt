@@ -1,4 +1,6 @@
-// What others call: opening an image of a save chip, and reading and writing the save in it.
+// What others call: format, open, read, write, commit and len, over an image that the caller lends and a mapping that goes in and
+// comes back by value. Each takes anything, and its contract determines answer, mapping, image and buffer, refused or not.
+mod committing;
 mod reading;
 mod tickets;
 mod writing;
@@ -9,8 +11,13 @@ ghost use Rattle.chip.specs.Outcomes.{outcome};
 ghost use Rattle.wear_leveling.specs.Open.{openOf};
 ghost use Rattle.wear_leveling.specs.Save.{admission, readInto};
 ghost use Rattle.wear_leveling.specs.Write.{afterWrite};
+ghost use Rattle.chip.specs.Blocks.{lenOf};
+ghost use Rattle.wear_leveling.specs.Commit.{commitAnswer, afterCommit};
+ghost use Rattle.wear_leveling.specs.Format.{formatAnswer, afterFormat};
 use chip::Answer;
 use chip::Chip;
+use chip::ChipOf;
+use chip::Found;
 use chip::Mapping;
 use chip::Outcome;
 
@@ -75,4 +82,55 @@ pub fn write(image: &mut [u8], m: Mapping, place: usize, bytes: &[u8]) -> Outcom
     }
     let n = writing::write_save(image, m, place, bytes);
     Outcome::accepted(n)
+}
+
+// The bytes of the save that a mapping belongs to, 0 for a length that is no chip's.
+pub fn len(m: Mapping) -> usize
+    ensures { λ r. ⌜ r ≡ lenOf m ⌝ }
+{
+    m.len()
+}
+
+// Commits: new tickets for changed blocks on small chips, block zero from the mapping, and an erased journal; no block is
+// changed any more, and no data block is stored to. A refusal (8: the mapping does not fit the image; 10: a count above 127
+// on a 1 MiB chip, at the first such block) stores nothing and hands the mapping back as it came.
+pub fn commit(image: &mut [u8], m: Mapping) -> Outcome
+    ensures { λ r. ⌜ r ≡ outcome (commitAnswer (length (now (image .entry))) m) (afterCommit (now (image .entry)) m .mapping) ⌝ }
+    ensures { λ r. ⌜ now (image .exit) ≡ afterCommit (now (image .entry)) m .image ⌝ }
+{
+    let n = image.len();
+    if !m.fits(n) {
+        return Outcome {
+            answer: Answer::DoesNotFit,
+            mapping: m,
+        };
+    }
+    let high = m.high_count();
+    if let Found::At(v) = high {
+        return Outcome {
+            answer: Answer::CountTooHigh(v),
+            mapping: m,
+        };
+    }
+    let known = Chip::from_len(n);
+    match known {
+        ChipOf::Known(kind) => Outcome::accepted(committing::commit_on(image, m, kind)),
+        ChipOf::Unknown => Outcome::accepted(m),
+    }
+}
+
+// Formats an image of one of the chips' lengths: block zero anew, and data blocks as they are. Another length is refused
+// with 1 and left as it is.
+pub fn format(image: &mut [u8]) -> Answer
+    ensures { λ r. ⌜ r ≡ formatAnswer (length (now (image .entry))) ⌝ }
+    ensures { λ r. ⌜ now (image .exit) ≡ afterFormat (now (image .entry)) ⌝ }
+{
+    let known = Chip::from_len(image.len());
+    match known {
+        ChipOf::Known(kind) => {
+            block_map::format_zero(image, kind);
+            Answer::Accepted
+        }
+        ChipOf::Unknown => Answer::WrongLength,
+    }
 }
