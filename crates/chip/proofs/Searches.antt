@@ -3,7 +3,9 @@
 use mathlib.Core.Path.{_≡_, refl, sym, _∙_}
 use mathlib.Core.Bool.{Bool, true, false}
 use Prim.Native.Nat.{ℕ, zero, suc, _+_, _-_, _<_, _≤_}
+use native.Mathlib.Decide.{ℕ-discrete}
 use native.Mathlib.Omega.{arith}
+use Rattle.lists.specs.Words.{pick}
 use Rattle.chip.specs.declared.Found.the-variants.{At, Nothing}
 use Rattle.chip.specs.Search.{firstFrom, firstOf}
 
@@ -55,3 +57,16 @@ unfolding firstFrom
 first-ext f g v zero h = refl
 first-ext f g v (suc n) h =
     rw (h v (omega arith) (omega arith), first-ext f g (v + 1) n (λ i a b. h i (omega arith) (omega arith)))
+
+-- a search that finds nothing has missed at each place
+pub first-none : (f : ℕ → Bool) (v n : ℕ) → firstFrom f v n ≡ Nothing → (i : ℕ) → v ≤ i → i < v + n → f i ≡ false
+unfolding firstFrom
+first-none f v zero e i a b = absurd (omega arith)
+first-none f v (suc n) e i a b = go (f v) refl e (λ d. first-none f (v + 1) n d i) (ℕ-discrete i v)
+  where
+    go
+        : (t : Bool) → f v ≡ t → pick t (At v) (firstFrom f (v + 1) n) ≡ Nothing
+        → (firstFrom f (v + 1) n ≡ Nothing → v + 1 ≤ i → i < v + 1 + n → f i ≡ false) → Dec (i ≡ v) → f i ≡ false
+    go true p d r c = let x : _≡_ {A = ℕ} 0 1 = cc in absurd (omega arith)
+    go false p d r (yes c) = rw c p
+    go false p d r (no c) = r d (omega (arith, c)) (omega arith)

@@ -4,8 +4,7 @@
 use mathlib.Core.Path.{_≡_, refl, sym, ap, _∙_}
 use mathlib.Core.Bool.{Bool, true, false, not, and-false}
 use mathlib.Core.List.{List}
-use Prim.Native.Nat.{ℕ, zero, suc, _+_, _*_, _/_, _≤_, _<_}
-use native.Mathlib.Decide.{ℕ-discrete}
+use Prim.Native.Nat.{ℕ, _+_, _*_, _/_, _<_}
 use native.Mathlib.Omega.{arith}
 use borrow.Author.Tests.{lt-ltb, le-ltb, not-false}
 use lib.Dec.{leb, ltb}
@@ -16,30 +15,17 @@ use Rattle.lists.proofs.Tests.{all-by}
 use Rattle.lists.proofs.Tabulate.{length-tabulate, getD-tabulate}
 use Rattle.chip.specs.declared.Block.{Block}
 use Rattle.chip.specs.declared.Condition.the-variants.{Free, Clean, Changed}
-use Rattle.chip.specs.declared.Found.the-variants.{At, Nothing}
+use Rattle.chip.specs.declared.Found.the-variants.{Nothing}
 use Rattle.chip.specs.declared.Mapping.{Mapping}
 use Rattle.chip.specs.Figures.{Layout, virtuals, sectors, inUseBit}
 use Rattle.chip.specs.Blocks.{isFree, noBlock, records, blockAt}
-use Rattle.chip.specs.Search.{firstFrom}
 use Rattle.chip.specs.Fits.{placed, eachOnce}
+use Rattle.chip.proofs.Searches.{first-none}
 use Rattle.chip.proofs.Layouts.{Sound}
 use Rattle.chip.proofs.Onto.{once-apart}
 use Rattle.block_map.specs.Items.{itemAt, conditionOf, decoded, itemBlock, itemTicket, blockEntry, ticketEntry, loaded, badNumber}
 use Rattle.block_map.proofs.Maps.{no-tickets}
 use Rattle.journal.specs.Opened.{Opened}
-
--- a search that finds nothing has missed at each place
-first-none : (f : ℕ → Bool) (v n : ℕ) → firstFrom f v n ≡ Nothing → (i : ℕ) → v ≤ i → i < v + n → f i ≡ false
-unfolding firstFrom
-first-none f v zero e i a b = absurd (omega arith)
-first-none f v (suc n) e i a b = go (f v) refl e (λ d. first-none f (v + 1) n d i) (ℕ-discrete i v)
-  where
-    go
-        : (t : Bool) → f v ≡ t → pick t (At v) (firstFrom f (v + 1) n) ≡ Nothing
-        → (firstFrom f (v + 1) n ≡ Nothing → v + 1 ≤ i → i < v + 1 + n → f i ≡ false) → Dec (i ≡ v) → f i ≡ false
-    go true p d r c = let x : _≡_ {A = ℕ} 0 1 = cc in absurd (omega arith)
-    go false p d r (yes c) = rw c p
-    go false p d r (no c) = r d (omega (arith, c)) (omega arith)
 
 -- step 3 finds no number where all are placed
 none-once : (l : Layout) (m : Mapping) → badNumber l m ≡ Nothing → eachOnce l m ≡ true

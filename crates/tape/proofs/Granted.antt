@@ -1,0 +1,46 @@
+-- Which writes are made: by the two tests, an accepted one has a mapping that fits and a range in the save, and is its
+-- visits; any other leaves image and mapping as they were. Assumes nothing.
+use mathlib.Core.Path.{_≡_, sym, _∙_}
+use mathlib.Core.List.{List}
+use Prim.Native.Nat.{ℕ}
+use native.Mathlib.Omega.{arith}
+use borrow.Author.Tests.{ne-eqb}
+use lib.ListN.{length}
+use Rattle.lists.proofs.Orders.{by-test}
+use Rattle.chip.specs.declared.Answer.the-variants.{Accepted, DoesNotFit, OutOfRange}
+use Rattle.chip.specs.declared.Mapping.{Mapping}
+use Rattle.chip.specs.Blocks.{lenOf}
+use Rattle.chip.specs.Answers.{inSave, numberOf}
+use Rattle.chip.specs.Fits.{fits}
+use Rattle.chip.proofs.Numbers.{zero-accepted}
+use Rattle.wear_leveling.specs.Save.{admission}
+use Rattle.wear_leveling.specs.Write.{state, written, CanWrite, afterWrite}
+use Rattle.wear_leveling.proofs.Admitted.{does-not-fit, out-of-range, can-write}
+
+module _ (image : List ℕ) (m : Mapping) (place : ℕ) (d : List ℕ) where
+  -- an accepted write is its visits, and another leaves image and mapping as they were
+  pub write-is : admission (length image) m place (length d) ≡ Accepted → afterWrite image m place d ≡ written place d (state image m)
+  unfolding afterWrite
+  write-is e = rw e
+
+  pub write-refused : (admission (length image) m place (length d) ≡ Accepted → ⊥) → afterWrite image m place d ≡ state image m
+  unfolding afterWrite
+  write-refused ne =
+      rw (ne-eqb (numberOf (admission (length image) m place (length d))) 0
+      (λ e. ne (zero-accepted (admission (length image) m place (length d)) e)))
+
+  -- what an accepted write has shown
+  pub accepted-can : admission (length image) m place (length d) ≡ Accepted → CanWrite image m place (length d)
+  accepted-can e =
+      by-test (fits (length image) m)
+      (λ f.
+      by-test (inSave (lenOf m) place (length d))
+      (λ r. can-write image m place (length d) f r)
+      (λ r.
+      let a : OutOfRange ≡ Accepted = sym (out-of-range (length image) m place (length d) f r) ∙ e in
+      let z : _≡_ {A = ℕ} 0 1 = cc in
+      absurd (omega arith)))
+      (λ f.
+      let a : DoesNotFit ≡ Accepted = sym (does-not-fit (length image) m place (length d) f) ∙ e in
+      let z : _≡_ {A = ℕ} 0 1 = cc in
+      absurd (omega arith))

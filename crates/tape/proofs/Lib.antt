@@ -1,0 +1,10 @@
+pub mod Erased
+pub mod FreshOpen
+pub mod Granted
+pub mod Stored
+pub mod Visited
+pub mod Writes
+pub mod OnWrite
+pub mod OnCommit
+pub mod Start
+pub mod Demand

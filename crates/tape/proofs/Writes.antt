@@ -1,0 +1,223 @@
+-- A write is its visits one after the other, so what each keeps all keep. After those before sector s the save is the one
+-- that was, with the bytes for sectors before s put in their place; the next part stands where these end, and the last one
+-- ends where the write does. Assumes nothing.
+use mathlib.Core.Path.{_≡_, refl, sym, ap, _∙_}
+use mathlib.Core.Bool.{true}
+use mathlib.Core.Logic.{_⊎_, inl, inr}
+use mathlib.Core.List.{List}
+use Prim.Native.Nat.{ℕ, zero, suc, _+_, _-_, _*_, _/_, _≤_, _<_}
+use native.Mathlib.Omega.{arith}
+use borrow.Author.Tests.{eq-eqb}
+use lib.Dec.{eqb}
+use lib.ListN.{length, take, drop}
+use lib.Seq.{take-all}
+use Rattle.crc16.specs.Crc.{crc16, ticketOf}
+use Rattle.lists.specs.Words.{splice}
+use Rattle.lists.proofs.Orders.{split}
+use Rattle.lists.proofs.Splice.{splice-nil}
+use Rattle.lists.proofs.Tests.{and-both}
+use Rattle.lists.proofs.Windows.{length-window, getD-window, window-ext}
+use Rattle.chip.specs.declared.Answer.the-variants.{Accepted}
+use Rattle.chip.specs.declared.Block.{Block}
+use Rattle.chip.specs.declared.Chip.{Chip}
+use Rattle.chip.specs.declared.ChipOf.the-variants.{Known}
+use Rattle.chip.specs.declared.Condition.{Condition}
+use Rattle.chip.specs.declared.Condition.the-variants.{Free, Clean, Changed}
+use Rattle.chip.specs.declared.Mapping.{Mapping}
+use Rattle.chip.specs.Figures.{layoutOf, virtuals, reserved, blockLen, sectorLen, sectors, saveLen, fromLen, byChip}
+use Rattle.chip.specs.Blocks.{isFree, blockAt, numberAt, lenOf}
+use Rattle.chip.specs.Fits.{eachOnce, reservedFree, fitsOwn, fits, Apart}
+use Rattle.chip.specs.Fits.Laws.{own-known, fits-is}
+use Rattle.chip.proofs.Layouts.{sound, from-is}
+use Rattle.chip.proofs.Onto.{apart-once}
+use Rattle.wear_leveling.specs.Tickets.{sectorPlace, ticketIn}
+use Rattle.wear_leveling.specs.Save.{saveBytes, admission}
+use Rattle.wear_leveling.specs.Write.{State, state, firstSector, endSector, visitCount, visits, written, CanWrite}
+use Rattle.wear_leveling.proofs.ByBlocks.{length-save}
+use Rattle.wear_leveling.proofs.Fitting.{fits-len, fits-apart, fits-reserved, fits-save, fits-lies}
+use Rattle.wear_leveling.proofs.Visits.{Kept, visits-kept}
+use Rattle.tape.proofs.Stored.{done, done-none, done-all, grown}
+use Rattle.tape.proofs.Visited.{Good, visit-changed, visit-numbered, visit-save, Since, since-more}
+use Rattle.tape.proofs.Granted.{accepted-can}
+
+-- an accepted write, on the chip of the image's length
+module _ (image : List ℕ) (m : Mapping) (place : ℕ) (d : List ℕ) (k : Chip) (known : fromLen (length image) ≡ Known k)
+    (ok : admission (length image) m place (length d) ≡ Accepted) where
+  -- image and mapping after it
+  abbrev pub new : State
+  new = written place d (state image m)
+
+  can : CanWrite image m place (length d)
+  can = accepted-can image m place d ok
+
+  -- image and mapping so far, after the first j visits
+  so-far : ℕ → State
+  so-far j = visits place d j (state image m)
+
+  kept : (j : ℕ) → j ≤ visitCount place (length d) → Kept (state image m) (so-far j)
+  unfolding so-far
+  kept j h = visits-kept place d (state image m) can j h
+
+  kept-save : (j : ℕ) → j ≤ visitCount place (length d) → lenOf (so-far j .mapping) ≡ lenOf m
+  unfolding lenOf
+  kept-save j h = ap (λ (x : ℕ). byChip (fromLen x) (λ c. saveLen (layoutOf c)) 0) (kept j h .len-kept)
+
+  kept-apart : (j : ℕ) → j ≤ visitCount place (length d) → Apart (so-far j .mapping) (virtuals (layoutOf k))
+  kept-apart j h =
+      let a = fits-apart (length image) m (can .fitting) k known in
+      let s : (v : ℕ) → numberAt (so-far j .mapping) v ≡ numberAt m v = kept j h .number-kept in
+      record {
+        low = λ v b. rw (s v) (a .low v b);
+        high = λ v b. rw (s v) (a .high v b);
+        apart = λ u v bu bv e. a .apart u v bu bv (sym (s u) ∙ e ∙ s v);
+      }
+
+  kept-good : (j : ℕ) → j ≤ visitCount place (length d) → Good (virtuals (layoutOf k)) (so-far j)
+  kept-good j h =
+      record {
+        numbers = kept-apart j h;
+        image = omega (arith, kept j h .length-kept, from-is (length image) k known, sound k .some);
+        save = kept-save j h ∙ fits-save (length image) m (can .fitting) k known;
+      }
+
+  visits-save
+      : (j : ℕ) → j ≤ visitCount place (length d)
+      → saveBytes (so-far j .image) (so-far j .mapping)
+      ≡ splice (saveBytes image m) place (take (done place (length d) (firstSector place + j)) d)
+  unfolding so-far visits
+  visits-save zero h =
+      rw (done-none place (length d)) (sym (splice-nil (saveBytes image m) place (omega (arith, can .inside, length-save image m))))
+  visits-save (suc j) h =
+      let s : ℕ = firstSector place + j in
+      let e : firstSector place + suc j ≡ s + 1 = omega arith in
+      visit-save place d s (omega arith) (omega arith) (virtuals (layoutOf k)) (so-far j) (kept-good j (omega arith))
+      (omega (arith, can .inside, kept-save j (omega arith)))
+      ∙ rw (visits-save j (omega arith), e)
+      (grown (saveBytes image m) place d s (omega (arith, can .inside, length-save image m)) (omega arith) (omega arith))
+
+  visits-since : (j : ℕ) → j ≤ visitCount place (length d) → Since (virtuals (layoutOf k)) (state image m) (so-far j)
+  unfolding so-far visits
+  visits-since zero h =
+      record {
+        blocks = refl;
+        unvisited = λ v ne. refl;
+        bytes = λ v o b c ne. refl;
+        beyond = λ v b. refl;
+        zeroth = λ q b. refl;
+      }
+  visits-since (suc j) h =
+      since-more place d (firstSector place + j) (omega arith) (omega arith) (virtuals (layoutOf k)) (state image m) (so-far j)
+      (kept-good j (omega arith)) (omega (arith, can .inside, kept-save j (omega arith))) (visits-since j (omega arith))
+      (kept j (omega arith) .number-kept)
+
+  all-visits : new ≡ so-far (visitCount place (length d))
+  unfolding written so-far
+  all-visits = refl
+
+  -- the law of the tape: the save is the one that was, with d in its place
+  pub write-save : saveBytes (new .image) (new .mapping) ≡ splice (saveBytes image m) place d
+  write-save =
+      rw all-visits
+      (visits-save (visitCount place (length d)) (omega arith)
+      ∙ rw (done-all place (length d), take-all (length d) d (omega arith)))
+
+  -- lengths, tickets and numbers are kept
+  pub write-kept : Kept (state image m) new
+  write-kept = rw all-visits (kept (visitCount place (length d)) (omega arith))
+
+  pub write-length : length (new .image) ≡ length image
+  write-length = write-kept .length-kept
+
+  pub write-len : new .mapping .len ≡ m .len
+  write-len = write-kept .len-kept
+
+  pub write-tickets : new .mapping .tickets ≡ m .tickets
+  write-tickets = write-kept .tickets-kept
+
+  pub write-number : (v : ℕ) → numberAt (new .mapping) v ≡ numberAt m v
+  write-number v = write-kept .number-kept v
+
+  -- a block that is not changed, its bytes, the blocks from the reserved one on, and block zero are as they were
+  pub write-since : Since (virtuals (layoutOf k)) (state image m) new
+  write-since = rw all-visits (visits-since (visitCount place (length d)) (omega arith))
+
+  pub write-size : length (new .mapping .blocks) ≡ length (m .blocks)
+  write-size = write-since .blocks
+
+  pub unvisited : (v : ℕ) → (blockAt (new .mapping) v .condition ≡ Changed → ⊥) → blockAt (new .mapping) v ≡ blockAt m v
+  unvisited v ne = write-since .unvisited v ne
+
+  -- each block is as it was, or changed
+  pub write-blocks : (v : ℕ) → (blockAt (new .mapping) v ≡ blockAt m v) ⊎ (blockAt (new .mapping) v .condition ≡ Changed)
+  write-blocks v = go (blockAt (new .mapping) v .condition) refl
+    where
+      go : (c : Condition) → blockAt (new .mapping) v .condition ≡ c
+          → (blockAt (new .mapping) v ≡ blockAt m v) ⊎ (blockAt (new .mapping) v .condition ≡ Changed)
+      go Free e = inl (unvisited v (λ f. let z : _≡_ {A = ℕ} 0 1 = cc in omega arith))
+      go Clean e = inl (unvisited v (λ f. let z : _≡_ {A = ℕ} 0 1 = cc in omega arith))
+      go Changed e = inr e
+
+  -- the reserved block and the records past the last are as they were
+  pub write-beyond : (v : ℕ) → reserved (layoutOf k) ≤ v → blockAt (new .mapping) v ≡ blockAt m v
+  write-beyond v h = write-since .beyond v h
+
+  -- the tickets of a block that is not changed are as they were
+  pub write-block-bytes
+      : (v j : ℕ) → v < virtuals (layoutOf k) → j < sectors → (blockAt (new .mapping) v .condition ≡ Changed → ⊥)
+      → ticketIn (new .image) (numberAt m v) j ≡ ticketIn image (numberAt m v) j
+  unfolding ticketIn
+  write-block-bytes v j h b ne =
+      let at : ℕ = sectorPlace (numberAt m v) j in
+      let n : length (new .image) ≡ length image = write-length in
+      let lies : numberAt m v * blockLen + blockLen ≤ length image = fits-lies image m (can .fitting) k known .within v h in
+      ap (λ (r : List ℕ). ticketOf (crc16 r))
+      (window-ext 0 at sectorLen image (take sectorLen (drop at (new .image))) (omega arith)
+      (length-window at sectorLen (new .image) (omega arith))
+      (λ i c.
+      let e : at + i ≡ numberAt m v * blockLen + (j * sectorLen + i) = omega arith in
+      getD-window at sectorLen (new .image) i 0 c
+      ∙ rw e (write-since .bytes v (j * sectorLen + i) h (omega arith) ne)))
+
+  -- the mapping fits the image as before
+  pub write-fits : fits (length (new .image)) (new .mapping) ≡ true
+  write-fits =
+      let n : new .mapping .len ≡ length (new .image) = write-len ∙ fits-len (length image) m (can .fitting) ∙ sym write-length in
+      let c : fromLen (new .mapping .len) ≡ Known k = ap fromLen (n ∙ write-length) ∙ known in
+      fits-is (new .mapping) (length (new .image))
+      ∙ and-both (eqb (new .mapping .len) (length (new .image))) (fitsOwn (new .mapping)) (eq-eqb _ _ n)
+      (own-known (new .mapping) k c
+      ∙ and-both (eachOnce (layoutOf k) (new .mapping)) (reservedFree (layoutOf k) (new .mapping))
+      (apart-once (new .mapping) (layoutOf k) (omega (arith, sound k .some))
+      (rw all-visits (kept-apart (visitCount place (length d)) (omega arith))))
+      (ap (λ (b : Block). isFree (b .condition)) (write-beyond (reserved (layoutOf k)) (omega arith))
+      ∙ fits-reserved (length image) m (can .fitting) k known))
+
+  -- where no sector is visited nothing happens
+  pub write-quiet : visitCount place (length d) ≡ 0 → new ≡ state image m
+  unfolding written visits
+  write-quiet e = rw e
+
+  -- the block of the last sector that is visited is changed
+  pub write-marks
+      : 0 < visitCount place (length d)
+      → blockAt (new .mapping) ((endSector place (length d) - 1) / sectors) .condition ≡ Changed
+  unfolding written visits so-far
+  write-marks h =
+      let j : ℕ = visitCount place (length d) - 1 in
+      let e : visitCount place (length d) ≡ suc j = omega arith in
+      let s : endSector place (length d) - 1 ≡ firstSector place + j = omega arith in
+      rw (e, s)
+      (visit-changed place d (firstSector place + j) (so-far j)
+      (visit-numbered place d (firstSector place + j) (omega arith) (omega arith) (virtuals (layoutOf k)) (so-far j)
+      (kept-good j (omega arith)) (omega (arith, can .inside, kept-save j (omega arith)))))
+
+  -- so a write after which no block is changed has done nothing
+  pub write-still
+      : ((v : ℕ) → v < virtuals (layoutOf k) → blockAt (new .mapping) v .condition ≡ Changed → ⊥)
+      → new ≡ state image m
+  write-still still =
+      split (visitCount place (length d)) 0
+      (λ h. write-quiet (omega arith))
+      (λ h.
+      absurd (still ((endSector place (length d) - 1) / sectors)
+      (omega (arith, can .inside, fits-save (length image) m (can .fitting) k known)) (write-marks h)))
