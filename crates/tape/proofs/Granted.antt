@@ -15,7 +15,7 @@ use Rattle.chip.specs.Fits.{fits}
 use Rattle.chip.proofs.Numbers.{zero-accepted}
 use Rattle.wear_leveling.specs.Save.{admission}
 use Rattle.wear_leveling.specs.Write.{state, written, CanWrite, afterWrite}
-use Rattle.wear_leveling.proofs.Admitted.{does-not-fit, out-of-range, can-write}
+use Rattle.wear_leveling.proofs.Admission.{not-fitting, out-of-range, can-write}
 
 module _ (image : List ℕ) (m : Mapping) (place : ℕ) (d : List ℕ) where
   -- an accepted write is its visits, and another leaves image and mapping as they were
@@ -41,6 +41,6 @@ module _ (image : List ℕ) (m : Mapping) (place : ℕ) (d : List ℕ) where
       let z : _≡_ {A = ℕ} 0 1 = cc in
       absurd (omega arith)))
       (λ f.
-      let a : DoesNotFit ≡ Accepted = sym (does-not-fit (length image) m place (length d) f) ∙ e in
+      let a : DoesNotFit ≡ Accepted = sym (not-fitting (length image) m place (length d) f) ∙ e in
       let z : _≡_ {A = ℕ} 0 1 = cc in
       absurd (omega arith))

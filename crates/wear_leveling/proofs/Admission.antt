@@ -1,15 +1,23 @@
--- The three ways that the tests for 8 and 9 can go, and what is in the buffer then. Assumes nothing.
+-- The three ways that the tests for 8 and 9 can go, and what is shown where both were passed. Assumes nothing.
 use mathlib.Core.Path.{_≡_}
 use mathlib.Core.Bool.{true, false}
 use mathlib.Core.List.{List}
-use Prim.Native.Nat.{ℕ}
-use lib.ListN.{length, take, drop}
+use Prim.Native.Nat.{ℕ, _+_, _-_, _≤_}
+use native.Mathlib.Omega.{arith}
+use borrow.Author.Tests.{leb-true}
+use lib.Dec.{leb}
+use lib.ListN.{length}
+use Rattle.lists.proofs.Tests.{and-left, and-right}
 use Rattle.chip.specs.declared.Answer.the-variants.{Accepted, DoesNotFit, OutOfRange}
 use Rattle.chip.specs.declared.Mapping.{Mapping}
+use Rattle.chip.specs.Answers.{inSave}
 use Rattle.chip.specs.Blocks.{lenOf}
 use Rattle.chip.specs.Fits.{fits}
-use Rattle.chip.specs.Answers.{inSave}
-use Rattle.wear_leveling.specs.Save.{saveBytes, admission, readInto}
+use Rattle.chip.proofs.Layouts.{sound}
+use Rattle.wear_leveling.specs.Save.{admission}
+use Rattle.wear_leveling.specs.Readable.{Readable}
+use Rattle.wear_leveling.specs.Write.{CanWrite}
+use Rattle.wear_leveling.proofs.Fitting.{Fitting, fitting, fits-lies}
 
 module _ (n : ℕ) (m : Mapping) (place k : ℕ) where
   pub not-fitting : fits n m ≡ false → admission n m place k ≡ DoesNotFit
@@ -25,17 +33,26 @@ module _ (n : ℕ) (m : Mapping) (place k : ℕ) where
     unfolding admission
     admitted r = rw (f, r)
 
-module _ (image : List ℕ) (m : Mapping) (place : ℕ) (buf : List ℕ) where
-  pub unread-8 : admission (length image) m place (length buf) ≡ DoesNotFit → readInto image m place buf ≡ buf
-  unfolding readInto
-  unread-8 e = rw e
+-- the range lies in the save
+inside : (save place k : ℕ) → inSave save place k ≡ true → place + k ≤ save
+inside save place k r =
+    let a : place ≤ save = leb-true place save (and-left (leb place save) (leb k (save - place)) r) in
+    let b : k ≤ save - place = leb-true k (save - place) (and-right (leb place save) (leb k (save - place)) r) in
+    omega arith
 
-  pub unread-9 : admission (length image) m place (length buf) ≡ OutOfRange → readInto image m place buf ≡ buf
-  unfolding readInto
-  unread-9 e = rw e
+-- a mapping that fits, and a range in its save: it can be written to, and read from
+module _
+    (image : List ℕ) (m : Mapping) (place k : ℕ)
+    (f : fits (length image) m ≡ true) (r : inSave (lenOf m) place k ≡ true)
+  where
+    pub can-write : CanWrite image m place k
+    can-write = record { fitting = f; inside = inside (lenOf m) place k r }
 
-  pub read-in
-      : admission (length image) m place (length buf) ≡ Accepted
-      → readInto image m place buf ≡ take (length buf) (drop place (saveBytes image m))
-  unfolding readInto
-  read-in e = rw e
+    pub readable : Readable image m place k
+    readable =
+        let c : Fitting (length image) m = fitting (length image) m f in
+        record {
+          in-save = inside (lenOf m) place k r;
+          few = omega (arith, sound (c .chip) .few, c .save);
+          lies = λ v h. fits-lies image m f (c .chip) (c .known) .within v (omega (arith, c .save, h));
+        }

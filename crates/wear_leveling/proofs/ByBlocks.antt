@@ -1,45 +1,30 @@
 -- Reading by blocks: bytes of one block are the save's, byte by byte, and a buffer whose first bytes are the save's gets the
--- next ones. What a mapping that fits and a range in the save give is all that this asks for. Assumes nothing.
-use mathlib.Core.Path.{_≡_, sym, ap, _∙_, subst}
+-- next ones. Assumes nothing.
+use mathlib.Core.Path.{_≡_, sym, ap, _∙_}
 use mathlib.Core.Bool.{true, false}
 use mathlib.Core.List.{List, _++_}
 use Prim.Native.Nat.{ℕ, _+_, _-_, _*_, _/_, _%_, _<_, _≤_}
-use native.Mathlib.Nat.{zero-add, add-sub-cancel-left}
+use native.Mathlib.Nat.{add-sub-cancel-left}
 use native.Mathlib.Omega.{arith}
-use borrow.Author.Tests.{leb-true}
 use borrow.Rule.Slice.PartMut.{putMid, midOf, mid-len}
-use lib.Dec.{leb}
-use lib.ListN.{length, take, drop, getD, set, length-replicate, getD-replicate}
-use lib.Seq.{take-all, take-add, drop-drop}
+use lib.ListN.{length, take, drop, getD, length-replicate, getD-replicate}
+use lib.Seq.{slice, take-add, drop-drop}
 use Rattle.lists.specs.Words.{splice, rep}
 use Rattle.lists.proofs.Orders.{by-test}
-use Rattle.lists.proofs.Tests.{and-left, and-right}
 use Rattle.lists.proofs.Tabulate.{length-tabulate, getD-tabulate}
 use Rattle.lists.proofs.Splice.{splice-splice, splice-whole, part-back}
-use Rattle.lists.proofs.Stores.{taken-more}
-use Rattle.lists.proofs.Windows.{length-window, getD-window, window-ext}
+use Rattle.lists.proofs.Windows.{length-window, getD-window, window-ext, take-drop}
 use Rattle.chip.specs.declared.Block.{Block}
-use Rattle.chip.specs.declared.Chip.{Chip}
 use Rattle.chip.specs.declared.Mapping.{Mapping}
 use Rattle.chip.specs.Figures.{blockLen, erased}
 use Rattle.chip.specs.Blocks.{isFree, blockAt, numberAt, freeAt, lenOf}
-use Rattle.chip.specs.Fits.{fits}
-use Rattle.chip.specs.Answers.{inSave}
-use Rattle.chip.proofs.Layouts.{sound}
 use Rattle.wear_leveling.specs.Save.{byteAt, saveBytes}
 use Rattle.wear_leveling.specs.Readable.{blockPart, PartIn, Readable}
-use Rattle.wear_leveling.proofs.Fitting.{fits-chip, fits-save, fits-lies}
 
--- a loop that copies from the front: one more, and all
-pub copy-more
-    : (l s : List ℕ) (i : ℕ)
-    → i < length l → length s ≡ length l → set (splice l 0 (take i s)) i (getD s i 0) ≡ splice l 0 (take (i + 1) s)
-copy-more l s i h e =
-    subst (λ (n : ℕ). set (splice l 0 (take i s)) n (getD s i 0) ≡ splice l 0 (take (i + 1) s)) (zero-add i)
-    (taken-more l 0 s i 0 (omega arith) (omega arith))
-
-pub copy-all : (l s : List ℕ) (i : ℕ) → i ≡ length l → length s ≡ length l → splice l 0 (take i s) ≡ s
-copy-all l s i h e = let a : take i s ≡ s = take-all i s (omega arith) in rw a (splice-whole l s e)
+-- bytes of s that were copied over all of l
+pub copied-whole : (l s : List ℕ) (f : ℕ) → f + length l ≤ length s → splice l 0 (slice f (f + length l) s) ≡ take (length l) (drop f s)
+copied-whole l s f h =
+    rw (← take-drop f (length l) s) (splice-whole l (take (length l) (drop f s)) (length-window f (length l) s h))
 
 -- what is read of a free block, and of another
 module _ (image : List ℕ) (b : Block) (off n : ℕ) where
@@ -147,21 +132,3 @@ module _ (image : List ℕ) (m : Mapping) where
       rw e
       (splice-whole l (take (length l) (drop place (saveBytes image m)))
       (length-window place (length l) (saveBytes image m) (omega (arith, length-save))))
-
--- a mapping that fits, and a range in its save
-pub readable
-    : (image : List ℕ) (m : Mapping) (place n : ℕ)
-    → fits (length image) m ≡ true
-    → inSave (lenOf m) place n ≡ true
-    → Readable image m place n
-readable image m place n f r =
-    let c = fits-chip (length image) m f in
-    let k : Chip = c .0 in
-    let s = fits-save (length image) m f k (c .1) in
-    let a : place ≤ lenOf m = leb-true place (lenOf m) (and-left (leb place (lenOf m)) (leb n (lenOf m - place)) r) in
-    let b : n ≤ lenOf m - place = leb-true n (lenOf m - place) (and-right (leb place (lenOf m)) (leb n (lenOf m - place)) r) in
-    record {
-      in-save = omega arith;
-      few = omega (arith, sound k .few, s);
-      lies = λ v h. fits-lies image m f k (c .1) .within v (omega (arith, s, h));
-    }

@@ -26,7 +26,7 @@ use Rattle.block_map.specs.Put.{putMap}
 use Rattle.block_map.proofs.RoundTrip.{put-length, put-behind}
 use Rattle.wear_leveling.specs.Save.{byteAt, saveBytes}
 use Rattle.wear_leveling.specs.Commit.{isChanged, cleanCondition, cleaned, settledRecord, newTicket, committed, commitAnswer, committedOn, afterCommit}
-use Rattle.wear_leveling.proofs.FittingC.{known-long, fits-len, fits-apart, fits-reserved, fits-by}
+use Rattle.wear_leveling.proofs.Fitting.{known-long, fits-len, fits-apart, fits-reserved, fits-save, fits-by}
 
 -- ---- a condition that was cleaned
 
@@ -132,7 +132,7 @@ module _
     commit-fits = ap (fits (length image)) commit-mapping ∙ new-fits
       where
         old : Apart m (virtuals (layoutOf k))
-        old = fits-apart (length image) m k known fitted
+        old = fits-apart (length image) m fitted k known
 
         number : (v : ℕ) → v < virtuals (layoutOf k) → numberAt (committed (layoutOf k) image m) v ≡ numberAt m v
         number v h = committed-number (layoutOf k) image m few v h
@@ -147,15 +147,11 @@ module _
               apart = λ u v hu hv e. old .apart u v hu hv (sym (number u hu) ∙ e ∙ number v hv);
             })
             (committed-free (layoutOf k) image m few (reserved (layoutOf k)) (omega (arith, sound k .some))
-            ∙ fits-reserved (length image) m k known fitted)
+            ∙ fits-reserved (length image) m fitted k known)
 
     -- no block is changed any more
     pub commit-clean : (v : ℕ) → v < virtuals (layoutOf k) → isChanged (blockAt (afterCommit image m .mapping) v .condition) ≡ false
     commit-clean v h = rw commit-mapping (committed-clean (layoutOf k) image m few v h)
-
-    size : lenOf m ≡ saveLen (layoutOf k)
-    unfolding lenOf
-    size = let e : fromLen (m .len) ≡ Known k = ap fromLen (fits-len (length image) m fitted) ∙ known in rw e
 
     -- and so does the save's length
     pub commit-len : lenOf (afterCommit image m .mapping) ≡ lenOf m
@@ -166,9 +162,9 @@ module _
         : (i : ℕ) → i < lenOf m → byteAt (afterCommit image m .image) (afterCommit image m .mapping) i ≡ byteAt image m i
     unfolding byteAt
     commit-byte i h =
-        let b : i < saveLen (layoutOf k) = rw size at h in
+        let b : i < saveLen (layoutOf k) = rw (fits-save (length image) m fitted k known) at h in
         let v : i / blockLen < virtuals (layoutOf k) = omega arith in
-        let low : 1 ≤ numberAt m (i / blockLen) = fits-apart (length image) m k known fitted .low (i / blockLen) v in
+        let low : 1 ≤ numberAt m (i / blockLen) = fits-apart (length image) m fitted k known .low (i / blockLen) v in
         rw (
           commit-mapping,
           committed-free (layoutOf k) image m few (i / blockLen) v,

@@ -3,9 +3,6 @@ pub mod Lying
 pub mod Fitting
 pub mod ByBlocks
 pub mod Admission
-pub mod FittingW
 pub mod Visits
-pub mod Admitted
 pub mod Renewed
-pub mod FittingC
 pub mod Commits

@@ -2,32 +2,21 @@
 use mathlib.Core.Path.{_≡_, sym, _∙_}
 use mathlib.Core.List.{List}
 use Prim.Native.Nat.{ℕ, _≤_}
-use native.Mathlib.Omega.{arith}
 use lib.ListN.{length, take}
 use lib.Seq.{length-take-le}
 use Rattle.chip.specs.declared.Answer.the-variants.{Accepted}
 use Rattle.chip.specs.declared.Chip.{Chip}
 use Rattle.chip.specs.declared.ChipOf.the-variants.{Known}
-use Rattle.chip.specs.declared.Mapping.{Mapping}
 use Rattle.chip.specs.declared.Outcome.{Outcome}
-use Rattle.chip.specs.Figures.{layoutOf, blockLen, imageLen, fromLen}
+use Rattle.chip.specs.Figures.{layoutOf, blockLen, fromLen}
 use Rattle.chip.specs.Answers.{numberOf}
 use Rattle.chip.specs.Outcomes.{outcome}
-use Rattle.chip.proofs.Layouts.{sound, from-is}
 use Rattle.chip.proofs.Numbers.{zero-accepted}
 use Rattle.journal.specs.Steps.{steps1to6}
-use Rattle.journal.specs.Opened.{Opened, OpenedAs}
+use Rattle.journal.specs.Opened.{OpenedAs}
 use Rattle.journal.proofs.Accepted.{accepted-as}
 use Rattle.wear_leveling.specs.Tickets.{Lies, LiesIn}
-
--- a mapping in good order lies in an image of its layout's length
-pub opened-lies
-    : (k : Chip) (m : Mapping) (image : List ℕ)
-    → Opened (layoutOf k) m → length image ≡ imageLen (layoutOf k) → Lies (layoutOf k) m image
-opened-lies k m image o e =
-    record {
-      within = λ v h. omega (arith, o .numbers .high v h, sound k .some);
-    }
+use Rattle.wear_leveling.proofs.Fitting.{apart-lies}
 
 -- the outcome of steps 1 to 6 on an image's block zero, where its number is 0
 pub accepted-lies
@@ -48,4 +37,4 @@ accepted-lies image o h e n = record { lies = lies }
     lies k q =
         let d : Known k ≡ Known (found .chip) = sym q ∙ found .known in
         let c : found .chip ≡ k = cc in
-        rw (← c) (opened-lies (found .chip) (o .mapping) image (found .opened) (from-is (length image) (found .chip) (found .known)))
+        rw (← c) (apart-lies image (o .mapping) (found .chip) (found .opened .numbers) (found .known))

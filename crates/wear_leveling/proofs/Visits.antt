@@ -1,5 +1,5 @@
--- The steps of a write as laws over plain lists and mappings: a block that is filled sector by sector, the part that falls
--- into a sector, one visit more, and what visits keep. Assumes nothing.
+-- The steps of a write as laws over plain lists and mappings: what an accepted one may visit, a block that is filled sector by
+-- sector, the part that falls into a sector, one visit more, and what visits keep. Assumes nothing.
 use mathlib.Core.Path.{_≡_, refl, ap, _∙_, subst}
 use mathlib.Core.Bool.{Bool, true, false}
 use mathlib.Core.List.{List, [], _∷_}
@@ -9,13 +9,38 @@ use lib.ListN.{length, getD, set, length-replicate, replicate-append-replicate}
 use lib.Seq.{slice, take-all, length-slice}
 use Rattle.lists.specs.Words.{pick, splice, rep}
 use Rattle.lists.proofs.Splice.{splice-splice, length-splice}
-use Rattle.chip.specs.Figures.{blockLen, sectorLen, sectors, erased}
+use Rattle.chip.specs.Figures.{layoutOf, reserved, blockLen, sectorLen, sectors, erased}
 use Rattle.chip.specs.declared.Block.{Block}
 use Rattle.chip.specs.declared.Mapping.{Mapping}
-use Rattle.chip.specs.Blocks.{isFree, noBlock, blockAt, numberAt, withBlock}
+use Rattle.chip.specs.Blocks.{records, isFree, noBlock, blockAt, numberAt, withBlock}
+use Rattle.chip.proofs.Layouts.{sound}
 use Rattle.wear_leveling.specs.Tickets.{sectorPlace}
 use Rattle.wear_leveling.specs.Write.{State, state, firstSector, endSector, visitCount, visitedBlock, openedImage, storedPart, partFrom, partEnd, visit, visits, written, CanVisit, CanWrite}
-use Rattle.wear_leveling.proofs.FittingW.{can-visit}
+use Rattle.wear_leveling.proofs.Fitting.{fitting, fits-lies}
+
+-- an accepted write ends at least a sector before the image does, which has 256 blocks at most
+pub record Short (image : List ℕ) (place k : ℕ) : Type 0 where
+  pub short : place + k + sectorLen ≤ length image
+  pub few : length image ≤ records * blockLen
+
+module _ (image : List ℕ) (m : Mapping) (place k : ℕ) (can : CanWrite image m place k) where
+  pub can-short : Short image place k
+  can-short =
+      let f = fitting (length image) m (can .fitting) in
+      let s = sound (f .chip) in
+      record { short = omega (arith, can .inside, f .image, f .save); few = omega (arith, f .image) }
+
+  -- it can visit each of its sectors, which lie before the reserved block
+  can-visit : (s : ℕ) → firstSector place ≤ s → s < endSector place k → CanVisit image (numberAt m (s / sectors)) place k s
+  can-visit s from to =
+      let f = fitting (length image) m (can .fitting) in
+      let h : s < reserved (layoutOf (f .chip)) * sectors = omega (arith, can .inside, f .save) in
+      record {
+        within = fits-lies image m (can .fitting) (f .chip) (f .known) .within (s / sectors) (omega arith);
+        from = from;
+        to = to;
+        short = can-short .short;
+      }
 
 -- one sheet of k bytes more, after j of them
 pub filled-sheet

@@ -2,6 +2,7 @@
 // comes back by value. Each takes anything, and its contract determines answer, mapping, image and buffer, refused or not.
 mod committing;
 mod reading;
+mod slices;
 mod tickets;
 mod writing;
 

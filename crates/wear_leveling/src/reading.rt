@@ -1,33 +1,13 @@
 // Reading the save, block by block.
 ghost use mathlib.Core.Path.{_≡_};
-ghost use Prim.Native.Nat.{_+_, _*_, _≤_, min};
 ghost use lib.ListN.{length, take, drop};
-ghost use Rattle.chip.specs.Figures.{blockLen};
 ghost use Rattle.wear_leveling.specs.Save.{saveBytes};
 ghost use Rattle.wear_leveling.specs.Readable.{blockPart, PartIn, Readable};
+use crate::slices::copy;
+use crate::slices::smaller;
 use chip::Block;
 use chip::Chip;
 use chip::Mapping;
-
-// The smaller of two numbers.
-pub(crate) fn smaller(a: usize, b: usize) -> usize
-    ensures { λ r. ⌜ r ≡ min a b ⌝ }
-    ensures within { λ r. ⌜ (r ≤ a) × (r ≤ b) ⌝ }
-{
-    if a < b { a } else { b }
-}
-
-// dst becomes src.
-pub(crate) fn copy(dst: &mut [u8], src: &[u8])
-    requires { ⌜ length (now src) ≡ length (now dst) ⌝ }
-    ensures { λ _. ⌜ now (dst .exit) ≡ now (src .entry) ⌝ }
-{
-    let mut i: usize = 0;
-    while i < dst.len() {
-        dst[i] = src[i];
-        i += 1;
-    }
-}
 
 // part becomes the bytes of the block b from `off` on; a free block reads as erased.
 fn read_block(image: &[u8], b: Block, off: usize, part: &mut [u8])
@@ -40,8 +20,8 @@ fn read_block(image: &[u8], b: Block, off: usize, part: &mut [u8])
         return;
     }
     let from = b.physical.0 as usize * Chip::BLOCK + off;
-    let to = from + part.len();
-    copy(part, &image[from..to]);
+    let n = part.len();
+    copy(part, 0, image, from, n);
 }
 
 // buf becomes the save's bytes from `place` on.

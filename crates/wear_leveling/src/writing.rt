@@ -1,11 +1,13 @@
 // Writing into a save: sector by sector, at once, in the image.
 ghost use mathlib.Core.Path.{_≡_};
-ghost use Prim.Native.Nat.{_+_, _*_, _≤_, min, max};
+ghost use Prim.Native.Nat.{_+_, _*_, _≤_};
 ghost use lib.ListN.{length};
-ghost use lib.Seq.{slice};
 ghost use Rattle.lists.specs.Words.{splice, rep};
 ghost use Rattle.chip.specs.Figures.{blockLen, erased};
 ghost use Rattle.wear_leveling.specs.Write.{state, firstCount, visitedBlock, openedImage, storedPart, written, CanVisit, CanWrite};
+use crate::slices::copy;
+use crate::slices::larger;
+use crate::slices::smaller;
 use crate::tickets::sector_place;
 use chip::Block;
 use chip::Chip;
@@ -16,18 +18,6 @@ use chip::Physical;
 // The one fixed blank sheet: a sector of erased bytes.
 const CHUNK_INIT: [u8; Chip::SECTOR] = [Chip::ERASED; Chip::SECTOR];
 
-// Stores n bytes, those from `from` on, in the image from `at` on.
-fn put(image: &mut [u8], at: usize, bytes: &[u8], from: usize, n: usize)
-    requires { ⌜ (at + n ≤ length (now image)) × (from + n ≤ length (now bytes)) ⌝ }
-    ensures { λ _. ⌜ now (image .exit) ≡ splice (now (image .entry)) at (slice from (from + n) (now (bytes .entry))) ⌝ }
-{
-    let mut j: usize = 0;
-    while j < n {
-        image[at + j] = bytes[from + j];
-        j += 1;
-    }
-}
-
 // Fills a physical block, sector by sector, from the blank sheet.
 fn init_block(image: &mut [u8], number: Physical)
     requires { ⌜ number .0 * blockLen + blockLen ≤ length (now image) ⌝ }
@@ -37,7 +27,7 @@ fn init_block(image: &mut [u8], number: Physical)
     let mut j: usize = 0;
     while j < Chip::SECTORS {
         let at = sector_place(number, j);
-        put(image, at, &sheet, 0, Chip::SECTOR);
+        copy(image, at, &sheet, 0, Chip::SECTOR);
         j += 1;
     }
 }
@@ -72,30 +62,16 @@ fn visit_block(image: &mut [u8], b: Block) -> Block
     }
 }
 
-// The larger of two numbers.
-fn max(a: usize, b: usize) -> usize
-    ensures { λ r. ⌜ r ≡ max a b ⌝ }
-{
-    if a < b { b } else { a }
-}
-
-// The smaller of two numbers.
-fn min(a: usize, b: usize) -> usize
-    ensures { λ r. ⌜ r ≡ min a b ⌝ }
-{
-    if a < b { a } else { b }
-}
-
 // Stores the part of the bytes that falls into sector s of the save, which lies in this physical block.
 fn store_part(image: &mut [u8], number: Physical, place: usize, bytes: &[u8], s: usize)
     requires { ⌜ CanVisit (now image) (number .0) place (length (now bytes)) s ⌝ }
     ensures { λ _. ⌜ now (image .exit) ≡ storedPart (number .0) place (now (bytes .entry)) s (now (image .entry)) ⌝ }
 {
     let start = s * Chip::SECTOR;
-    let from = max(place, start);
-    let end = min(place + bytes.len(), start + Chip::SECTOR);
+    let from = larger(place, start);
+    let end = smaller(place + bytes.len(), start + Chip::SECTOR);
     let at = sector_place(number, s % Chip::SECTORS) + (from - start);
-    put(image, at, bytes, from - place, end - from);
+    copy(image, at, bytes, from - place, end - from);
 }
 
 // Visits sector s of the save, which lies in block b: hands the block back as it is then.

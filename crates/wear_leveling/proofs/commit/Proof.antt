@@ -3,7 +3,7 @@ use mathlib.Core.Path.{sym, _∙_}
 use borrow.Author.Tests.{not-true, not-false}
 use borrow.Author.Needs.{needs}
 use Rattle.wear_leveling.specs.Commit.{commitAnswer, committedOn, afterCommit}
-use Rattle.wear_leveling.proofs.FittingC.{fits-lies}
+use Rattle.wear_leveling.proofs.Fitting.{fits-lies}
 use Rattle.wear_leveling.proofs.commit.Statement.{statement}
 use Rattle.wear_leveling.proofs.commit.Tie as tie
 
@@ -45,7 +45,7 @@ commit-on-requires : tie.Need-commit-on-requires
 commit-on-requires c κs =
     let fit = c .before .before .before .before .before .before .before .before .before .fits2 in
     let e = not-false (fit .result) (c .before .before .before .before .before .before .before .before .if1 .left) in
-    fits-lies _ _ _ (sym (fit .ensures) ∙ e) (sym (c .before .before .before .before .from-len .ensures) ∙ c .before .before .known .given .1)
+    fits-lies _ _ (sym (fit .ensures) ∙ e) _ (sym (c .before .before .before .before .from-len .ensures) ∙ c .before .before .known .given .1)
 
 accepted-requires : tie.Need-accepted-requires
 accepted-requires c κs = search needs

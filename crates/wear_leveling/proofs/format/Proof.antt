@@ -2,7 +2,7 @@
 use mathlib.Core.Path.{sym, _∙_}
 use borrow.Author.Needs.{needs}
 use Rattle.wear_leveling.specs.Format.{formatAnswer, afterFormat}
-use Rattle.wear_leveling.proofs.FittingC.{known-long}
+use Rattle.wear_leveling.proofs.Fitting.{known-long}
 use Rattle.wear_leveling.proofs.format.Statement.{statement}
 use Rattle.wear_leveling.proofs.format.Tie as tie
 

@@ -4,9 +4,8 @@ use mathlib.Core.Path.{sym, _∙_}
 use borrow.Author.Tests.{not-true, not-false}
 use borrow.Author.Needs.{needs}
 use lib.ListN.{length}
-use Rattle.chip.specs.Outcomes.{outcome}
-use Rattle.wear_leveling.proofs.Admission.{not-fitting, out-of-range, admitted, unread-8, unread-9, read-in}
-use Rattle.wear_leveling.proofs.ByBlocks.{readable}
+use Rattle.wear_leveling.specs.Save.{readInto}
+use Rattle.wear_leveling.proofs.Admission.{not-fitting, out-of-range, admitted, readable}
 use Rattle.wear_leveling.proofs.read.Statement.{statement}
 use Rattle.wear_leveling.proofs.read.Tie as tie
 
@@ -14,10 +13,11 @@ fits-requires : tie.Need-fits-requires
 fits-requires c κs = search needs
 
 returns : tie.Need-returns
+unfolding readInto
 returns c =
     let a = c .before .before .before .before .args in
     let e = not-fitting (length (a .image .now)) (a .m) (a .place) (length (a .buf .now)) (sym (c .before .fits2 .ensures) ∙ not-true _ (c .if1 .taken)) in
-    (λ i. outcome (sym e i) (a .m), sym (unread-8 (a .image .now) (a .m) (a .place) (a .buf .now) e))
+    (rw e, rw e)
 
 len-requires : tie.Need-len-requires
 len-requires c κs = search needs
@@ -26,12 +26,13 @@ in-save-requires : tie.Need-in-save-requires
 in-save-requires c κs = search needs
 
 returns-2 : tie.Need-returns-2
+unfolding readInto
 returns-2 c =
     let a = c .before .before .before .before .before .before .before .args in
     let f = sym (c .before .before .before .before .fits2 .ensures) ∙ not-false _ (c .before .before .before .if1 .left) in
     let r = rw (c .before .before .len .ensures) at (sym (c .before .in-save .ensures) ∙ not-true _ (c .if2 .taken)) in
     let e = out-of-range (length (a .image .now)) (a .m) (a .place) (length (a .buf .now)) f r in
-    (λ i. outcome (sym e i) (a .m), sym (unread-9 (a .image .now) (a .m) (a .place) (a .buf .now) e))
+    (rw e, rw e)
 
 read-save-requires : tie.Need-read-save-requires
 read-save-requires c κs =
@@ -47,15 +48,14 @@ same-length : tie.Need-same-length
 same-length c = search needs
 
 returns-3 : tie.Need-returns-3
+unfolding readInto
 returns-3 c =
     let a = c .before .before .before .before .before .before .before .before .before .before .before .before .args in
     let tested = c .before .before .before .before .before in
     let f = sym (tested .before .before .before .before .fits2 .ensures) ∙ not-false _ (tested .before .before .before .if1 .left) in
     let r = rw (tested .before .before .len .ensures) at (sym (tested .before .in-save .ensures) ∙ not-false _ (tested .if2 .left)) in
-    let e = admitted (length (a .image .now)) (a .m) (a .place) (length (a .buf .now)) f r in (
-      c .accepted .ensures ∙ (λ i. outcome (sym e i) (a .m)),
-      c .before .before .before .read-save .ensures ∙ sym (read-in (a .image .now) (a .m) (a .place) (a .buf .now) e),
-    )
+    let e = admitted (length (a .image .now)) (a .m) (a .place) (length (a .buf .now)) f r in
+    (c .accepted .ensures ∙ rw e, c .before .before .before .read-save .ensures ∙ rw e)
 
 pub read-spec : {M : Type 1} → statement M
 read-spec =

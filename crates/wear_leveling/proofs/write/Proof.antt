@@ -5,7 +5,7 @@ use borrow.Author.Tests.{not-true, not-false}
 use borrow.Author.Needs.{needs}
 use lib.ListN.{length}
 use Rattle.wear_leveling.specs.Write.{afterWrite}
-use Rattle.wear_leveling.proofs.Admitted.{does-not-fit, out-of-range, accepted, can-write}
+use Rattle.wear_leveling.proofs.Admission.{not-fitting, out-of-range, admitted, can-write}
 use Rattle.wear_leveling.proofs.write.Statement.{statement}
 use Rattle.wear_leveling.proofs.write.Tie as tie
 
@@ -16,7 +16,7 @@ returns : tie.Need-returns
 unfolding afterWrite
 returns c =
     let a = c .before .before .before .before .args in
-    let e = does-not-fit (length (a .image .now)) (a .m) (a .place) (length (a .bytes .now)) (sym (c .before .fits2 .ensures) ∙ not-true _ (c .if1 .taken)) in
+    let e = not-fitting (length (a .image .now)) (a .m) (a .place) (length (a .bytes .now)) (sym (c .before .fits2 .ensures) ∙ not-true _ (c .if1 .taken)) in
     (rw e, rw e)
 
 len-requires : tie.Need-len-requires
@@ -54,7 +54,7 @@ returns-3 c =
     let saved = c .before .before .before .write-save in
     let fit = sym (c .before .before .before .before .before .before .before .before .before .fits2 .ensures) ∙ not-false _ (c .before .before .before .before .before .before .before .before .if1 .left) in
     let ok = sym (c .before .before .before .before .before .before .in-save .ensures) ∙ not-false _ (c .before .before .before .before .before .if2 .left) in
-    let e = accepted (length (a .image .now)) (a .m) (a .place) (length (a .bytes .now)) fit (rw (c .before .before .before .before .before .before .before .len .ensures) at ok) in
+    let e = admitted (length (a .image .now)) (a .m) (a .place) (length (a .bytes .now)) fit (rw (c .before .before .before .before .before .before .before .len .ensures) at ok) in
     (c .accepted .ensures ∙ rw (e, ← saved .ensures), rw (e, ← saved .ensures))
 
 pub write-spec : {M : Type 1} → statement M

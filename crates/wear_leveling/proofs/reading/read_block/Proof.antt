@@ -1,10 +1,12 @@
 -- `read_block` meets its contract: by the two arms of the test, where the part of the image that is copied is as long as the
 -- buffer. Assumes nothing.
 use mathlib.Core.Path.{sym, _∙_}
-use native.Mathlib.Nat.{add-sub-cancel-left}
+use Prim.Native.Nat.{_+_, _*_}
+use native.Mathlib.Omega.{arith}
 use borrow.Author.Needs.{needs}
 use lib.ListN.{length}
-use Rattle.wear_leveling.proofs.ByBlocks.{free-part, held-part}
+use Rattle.chip.specs.Figures.{blockLen}
+use Rattle.wear_leveling.proofs.ByBlocks.{copied-whole, free-part, held-part}
 use Rattle.wear_leveling.proofs.reading.read_block.Statement.{statement}
 use Rattle.wear_leveling.proofs.reading.read_block.Tie as tie
 
@@ -33,18 +35,6 @@ mul-from c = search needs
 add-from : tie.Need-add-from
 add-from c = search needs
 
-add-to : tie.Need-add-to
-add-to c = search needs
-
-sub-copy : tie.Need-sub-copy
-sub-copy c = search needs
-
-part-copy-start : tie.Need-part-copy-start
-part-copy-start c = search needs
-
-part-copy-end : tie.Need-part-copy-end
-part-copy-end c = search needs
-
 copy-requires : tie.Need-copy-requires
 copy-requires c κs = search needs
 
@@ -53,9 +43,10 @@ same-length-2 c = search needs
 
 returns-2 : tie.Need-returns-2
 returns-2 c =
-    let a = c .before .before .before .before .before .before .before .before .before .before .args in
-    let t = c .before .before .before .before .before .before in
-    (rw add-sub-cancel-left at (c .before .before .copy .ensures))
+    let a = c .before .before .before .before .before .before .before .before .before .args in
+    let t = c .before .before .before .before .before in
+    c .before .before .copy .ensures
+    ∙ copied-whole (a .part .now) (a .image .now) (a .b .physical .0 * blockLen + a .off) (omega arith)
     ∙ sym (held-part (a .image .now) (a .b) (a .off) (length (a .part .now)) (sym (t .before .is-free .ensures) ∙ t .if1 .left))
 
 pub read-block-spec : {M : Type 1} → statement M
@@ -69,10 +60,6 @@ read-block-spec =
     cast-from
     mul-from
     add-from
-    add-to
-    sub-copy
-    part-copy-start
-    part-copy-end
     copy-requires
     same-length-2
     returns-2)

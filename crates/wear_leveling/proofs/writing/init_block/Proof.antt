@@ -24,11 +24,11 @@ loop-holds c = (omega arith, refl, sym (splice-nil (c .before .args .image .now)
 sector-place-requires : tie.Need-sector-place-requires Inv-loop μ-loop
 sector-place-requires c κs = search needs
 
-slice-aggregate-put : tie.Need-slice-aggregate-put Inv-loop μ-loop
-slice-aggregate-put c = search needs
+slice-aggregate-copy : tie.Need-slice-aggregate-copy Inv-loop μ-loop
+slice-aggregate-copy c = search needs
 
-put-requires : tie.Need-put-requires Inv-loop μ-loop
-put-requires c κs = search needs
+copy-requires : tie.Need-copy-requires Inv-loop μ-loop
+copy-requires c κs = search needs
 
 add-j : tie.Need-add-j Inv-loop μ-loop
 add-j c = search needs
@@ -40,12 +40,12 @@ loop-again : tie.Need-loop-again Inv-loop μ-loop
 loop-again c =
     let l = c .before .before .before .before .before .before .before .loop in
     let place = c .before .before .before .before .before .sector-place in
-    let put = c .before .before .put in
+    let copy = c .before .before .copy in
     let a = c .before .before .before .before .before .before .before .before .before .args in
     let e : l .j * sectorLen + sectorLen ≡ (l .j + 1) * sectorLen = omega arith in (
       omega arith,
-      put .kept .0 ∙ l .inv .1,
-      put .ensures
+      copy .kept .0 ∙ l .inv .1,
+      copy .ensures
           ∙ rw (l .inv .2, place .ensures, ← e)
           (filled-sheet (a .image .now) (a .number .0 * blockLen) (l .j) sectorLen erased (omega arith)),
     )
@@ -67,8 +67,8 @@ init-block-spec =
     μ-loop
     loop-holds
     sector-place-requires
-    slice-aggregate-put
-    put-requires
+    slice-aggregate-copy
+    copy-requires
     add-j
     loop-less
     loop-again

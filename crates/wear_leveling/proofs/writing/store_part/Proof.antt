@@ -9,17 +9,17 @@ use Rattle.wear_leveling.proofs.writing.store_part.Tie as tie
 mul-start : tie.Need-mul-start
 mul-start c = search needs
 
-max-requires : tie.Need-max-requires
-max-requires c κs = search needs
+larger-requires : tie.Need-larger-requires
+larger-requires c κs = search needs
 
-add-min : tie.Need-add-min
-add-min c = search needs
+add-smaller : tie.Need-add-smaller
+add-smaller c = search needs
 
-add-min-2 : tie.Need-add-min-2
-add-min-2 c = search needs
+add-smaller-2 : tie.Need-add-smaller-2
+add-smaller-2 c = search needs
 
-min-requires : tie.Need-min-requires
-min-requires c κs = search needs
+smaller-requires : tie.Need-smaller-requires
+smaller-requires c κs = search needs
 
 sector-place-requires : tie.Need-sector-place-requires
 sector-place-requires c κs = search needs
@@ -30,14 +30,14 @@ sub-at c = search needs
 add-at : tie.Need-add-at
 add-at c = search needs
 
-sub-put : tie.Need-sub-put
-sub-put c = search needs
+sub-copy : tie.Need-sub-copy
+sub-copy c = search needs
 
-sub-put-2 : tie.Need-sub-put-2
-sub-put-2 c = search needs
+sub-copy-2 : tie.Need-sub-copy-2
+sub-copy-2 c = search needs
 
-put-requires : tie.Need-put-requires
-put-requires c κs = search needs
+copy-requires : tie.Need-copy-requires
+copy-requires c κs = search needs
 
 same-length : tie.Need-same-length
 same-length c = search needs
@@ -45,10 +45,10 @@ same-length c = search needs
 returns : tie.Need-returns
 returns c =
     let place = c .before .before .before .before .sector-place in
-    let end = c .before .before .before .before .before .min in
-    let from = c .before .before .before .before .before .before .max in
+    let end = c .before .before .before .before .before .smaller in
+    let from = c .before .before .before .before .before .before .larger in
     let a = c .before .before .before .before .before .before .before .before .before .args in
-    c .before .before .put .ensures
+    c .before .before .copy .ensures
     ∙ part-stored (a .image .now) (a .bytes .now) (a .number .0) (a .place) (a .s) (from .result) (end .result) (place .result)
     (from .ensures) (end .ensures) (place .ensures) (omega arith) (omega arith)
 
@@ -57,15 +57,15 @@ store-part-spec =
     tie.close
     (tie.spec
     mul-start
-    max-requires
-    add-min
-    add-min-2
-    min-requires
+    larger-requires
+    add-smaller
+    add-smaller-2
+    smaller-requires
     sector-place-requires
     sub-at
     add-at
-    sub-put
-    sub-put-2
-    put-requires
+    sub-copy
+    sub-copy-2
+    copy-requires
     same-length
     returns)

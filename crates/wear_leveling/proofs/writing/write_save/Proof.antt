@@ -7,8 +7,7 @@ use borrow.Author.Needs.{needs}
 use lib.ListN.{length}
 use Rattle.chip.specs.Blocks.{withBlock}
 use Rattle.wear_leveling.specs.Write.{state}
-use Rattle.wear_leveling.proofs.Visits.{Going, going-none, going-can, going-more, going-all}
-use Rattle.wear_leveling.proofs.FittingW.{can-short}
+use Rattle.wear_leveling.proofs.Visits.{can-short, Going, going-none, going-can, going-more, going-all}
 use Rattle.wear_leveling.proofs.writing.write_save.Statement.{statement}
 use Rattle.wear_leveling.proofs.writing.write_save.Tie as tie
 
