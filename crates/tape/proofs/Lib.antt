@@ -8,3 +8,4 @@ pub mod OnWrite
 pub mod OnCommit
 pub mod Start
 pub mod Demand
+pub mod Tight
