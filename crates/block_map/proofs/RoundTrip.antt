@@ -104,14 +104,14 @@ module _
     wide : 2 ≤ itemLen l
     wide = by-test (l .large) (λ e. rw e (omega arith)) (λ e. rw e (omega arith))
 
-    put-first : (v : ℕ) → v < virtuals l → getD (putMap l m z) (itemAt l v) 0 ≡ getD (itemPair l (blockAt m v)) 0 0
+    pub put-first : (v : ℕ) → v < virtuals l → getD (putMap l m z) (itemAt l v) 0 ≡ getD (itemPair l (blockAt m v)) 0 0
     put-first v h =
         let e : itemAt l v + 0 ≡ itemAt l v = omega arith in
         ap (λ (i : ℕ). getD (putMap l m z) i 0) (sym e)
         ∙ put-item v 0 h (omega (arith, wide))
         ∙ item-pair l (blockAt m v) (m .tickets) v 0 (omega arith)
 
-    put-second : (v : ℕ) → v < virtuals l → getD (putMap l m z) (itemAt l v + 1) 0 ≡ getD (itemPair l (blockAt m v)) 1 0
+    pub put-second : (v : ℕ) → v < virtuals l → getD (putMap l m z) (itemAt l v + 1) 0 ≡ getD (itemPair l (blockAt m v)) 1 0
     put-second v h = put-item v 1 h (omega (arith, wide)) ∙ item-pair l (blockAt m v) (m .tickets) v 1 (omega arith)
 
     -- ticket j, which stands in the item of block j / 8

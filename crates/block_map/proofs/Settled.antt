@@ -79,7 +79,7 @@ module _ (l : Layout) (s : Sound l) where
   unfolding fresh
   fresh-at v h = getD-tabulate (freshEntry l) records v noBlock h
 
-  fresh-in : (v : ℕ) → v < virtuals l → blockAt (fresh l) v ≡ blockOf (v + 1) 0 Free
+  pub fresh-in : (v : ℕ) → v < virtuals l → blockAt (fresh l) v ≡ blockOf (v + 1) 0 Free
   fresh-in v h = fresh-at v (omega (arith, s .few)) ∙ rw (lt-ltb v (virtuals l) h)
 
   fresh-ticket : (j : ℕ) → j < records * sectors → getD (fresh l .tickets) j 0 ≡ 0

@@ -71,7 +71,7 @@ module _ (l : Layout) (s : Sound l) where
 
 module _ (l : Layout) (s : Sound l) (m : Mapping) (o : Opened l m) where
   -- nothing in the mapping that a map would not keep
-  good-settled : Settled l m
+  pub good-settled : Settled l m
   good-settled =
       record {
         len = o .image;
@@ -91,13 +91,13 @@ module _ (l : Layout) (s : Sound l) (m : Mapping) (o : Opened l m) where
           let d : j / sectors * sectors + j % sectors ≡ j = omega arith in
           rw d at (o .free-tickets (j / sectors) (j % sectors) (omega arith) f (omega arith)))
 
-  numbers-good : badNumber l m ≡ Nothing
+  pub numbers-good : badNumber l m ≡ Nothing
   unfolding badNumber
   numbers-good =
       first-misses (λ v. not (placed (l .p) m v)) 0 (virtuals l)
       (λ v a b. rw (all-at (placed (l .p) m) (virtuals l) v (apart-once m l (omega (arith, s .some)) (o .numbers)) (omega arith)))
 
-  small-fits : (v : ℕ) → v < virtuals l → l .large ≡ false → numberAt m v < inUseBit
+  pub small-fits : (v : ℕ) → v < virtuals l → l .large ≡ false → numberAt m v < inUseBit
   small-fits v h e = omega (arith, o .numbers .high v h, s .small e)
 
   module _
@@ -109,7 +109,7 @@ module _ (l : Layout) (s : Sound l) (m : Mapping) (o : Opened l m) where
       whole = omega (arith, s .some)
 
       -- steps 2 to 6
-      put-steps : steps2to6 l (take blockLen (putMap l m z)) ≡ outcome Accepted m
+      pub put-steps : steps2to6 l (take blockLen (putMap l m z)) ≡ outcome Accepted m
       unfolding steps2to6 step6
       put-steps =
           let b : List ℕ = take blockLen z in

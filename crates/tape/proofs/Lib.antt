@@ -9,3 +9,8 @@ pub mod OnCommit
 pub mod Start
 pub mod Demand
 pub mod Tight
+pub mod Formatted
+pub mod Journaled
+pub mod Moves
+pub mod CaseL
+pub mod Cases

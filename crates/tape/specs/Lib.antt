@@ -1,3 +1,4 @@
 pub mod Run
 pub mod Demand
 pub mod Good
+pub mod Cases
