@@ -14,3 +14,4 @@ pub mod Journaled
 pub mod Moves
 pub mod CaseL
 pub mod Cases
+pub mod Refused

@@ -42,7 +42,7 @@ use Rattle.tape.specs.Good.{Good}
 use Rattle.tape.proofs.FreshOpen.{ticket-same, put-opens}
 
 -- a refused commit leaves image and mapping as they are
-commit-refused
+pub commit-refused
     : (image : List ℕ) (m : Mapping) → (numberOf (commitAnswer (length image) m) ≡ 0 → ⊥) → afterCommit image m ≡ state image m
 unfolding afterCommit
 commit-refused image m ne = rw (ne-eqb (numberOf (commitAnswer (length image) m)) 0 ne)
