@@ -15,3 +15,4 @@ pub mod Moves
 pub mod CaseL
 pub mod Cases
 pub mod Refused
+pub mod Acts

@@ -1,4 +1,4 @@
--- Every promise is tight: of each `pub` function of crates crc16, chip and wear_leveling, two outcomes at the same arguments
+-- Every promise is tight: of each `pub` function of crates crc16, chip, wear_leveling and ffi, two outcomes at the same arguments
 -- that both meet its contract are one, in the result and in the bytes behind its `&mut` at the exit. A contract is what the
 -- checker reads of it, `Learnt`, with all its clauses; tests/tight compares the functions below with the code's. Assumes
 -- nothing.
@@ -39,6 +39,13 @@ use Rattle.wear_leveling.proofs.read.Reads as read-reads
 use Rattle.wear_leveling.proofs.write.Reads as write-reads
 use Rattle.wear_leveling.proofs.commit.Reads as commit-reads
 use Rattle.wear_leveling.proofs.format.Reads as format-reads
+use Rattle.ffi.proofs.lw_crc16.Reads as lw-crc16-reads
+use Rattle.ffi.proofs.lw_format.Reads as lw-format-reads
+use Rattle.ffi.proofs.lw_open.Reads as lw-open-reads
+use Rattle.ffi.proofs.lw_len.Reads as lw-len-reads
+use Rattle.ffi.proofs.lw_read.Reads as lw-read-reads
+use Rattle.ffi.proofs.lw_write.Reads as lw-write-reads
+use Rattle.ffi.proofs.lw_commit.Reads as lw-commit-reads
 
 module _ {L : Type 0} {A R S : L → Type 0} (P : (κs : L) → A κs → R κs → S κs → Type 0) where
   -- lifetimes and arguments leave one result
@@ -156,3 +163,24 @@ commit-tight κs a r r2 s s2 p q = (p .0 ∙ sym (q .0), p .1 ∙ sym (q .1))
 
 pub format-tight : DeterminesBoth format-reads.Learnt (λ κs s. s .0 .now)
 format-tight κs a r r2 s s2 p q = (p .0 ∙ sym (q .0), p .1 ∙ sym (q .1))
+
+pub lw-crc16-tight : Determines lw-crc16-reads.Learnt
+lw-crc16-tight κs a r r2 s s2 p q = p ∙ sym q
+
+pub lw-open-tight : Determines lw-open-reads.Learnt
+lw-open-tight κs a r r2 s s2 p q = p ∙ sym q
+
+pub lw-len-tight : Determines lw-len-reads.Learnt
+lw-len-tight κs a r r2 s s2 p q = p ∙ sym q
+
+pub lw-read-tight : DeterminesBoth lw-read-reads.Learnt (λ κs s. s .1 .1 .1 .0 .now)
+lw-read-tight κs a r r2 s s2 p q = (p .0 ∙ sym (q .0), p .1 ∙ sym (q .1))
+
+pub lw-write-tight : DeterminesBoth lw-write-reads.Learnt (λ κs s. s .0 .now)
+lw-write-tight κs a r r2 s s2 p q = (p .0 ∙ sym (q .0), p .1 ∙ sym (q .1))
+
+pub lw-commit-tight : DeterminesBoth lw-commit-reads.Learnt (λ κs s. s .0 .now)
+lw-commit-tight κs a r r2 s s2 p q = (p .0 ∙ sym (q .0), p .1 ∙ sym (q .1))
+
+pub lw-format-tight : DeterminesBoth lw-format-reads.Learnt (λ κs s. s .0 .now)
+lw-format-tight κs a r r2 s s2 p q = (p .0 ∙ sym (q .0), p .1 ∙ sym (q .1))
