@@ -7,7 +7,7 @@
 //!
 //! The file, all numbers with their low byte first:
 //!
-//!     file    = "LWR1", u32 sums, u32 images, u32 runs, then that many of each
+//!     file    = "LWR1", u32 sums, u32 images, u32 runs, then that many of each, then "LWR1" again
 //!     sum     = u32 n, n bytes, u16 sum of these bytes
 //!     image   = u32 length, u16 kept, kept bytes, u8 class, u8 number, u32 place, mapping if class is 0
 //!     mapping = V times (u8 physical, u8 count, u8 condition); on small chips then V times 8 tickets
@@ -33,6 +33,9 @@ use cases::rng::Rng;
 use oracle::{Failure, Image, Opened};
 use std::io::{self, IsTerminal, Write};
 use std::process::ExitCode;
+
+/// What the file starts and ends with.
+const MARK: &[u8; 4] = b"LWR1";
 
 /// How often each aim is taken on each chip.
 const OF_EACH: usize = 4;
@@ -73,13 +76,14 @@ fn main() -> ExitCode {
     let images = sample(&mut rng);
     let runs = runs(&mut rng);
 
-    let mut file = b"LWR1".to_vec();
+    let mut file = MARK.to_vec();
     for part in [&sums, &images, &runs] {
         file.extend((part.len() as u32).to_le_bytes());
     }
     for part in [sums, images, runs] {
         file.extend(part.concat());
     }
+    file.extend(MARK);
     eprintln!("{} bytes", file.len());
     match io::stdout().write_all(&file) {
         Ok(()) => ExitCode::SUCCESS,
