@@ -1,7 +1,10 @@
 //! Times of the port and of the original, side by side in one process, on the same inputs.
 //!
 //! Both are warm: each job is done twice before its first timed round, with the same buffers. In each round the two
-//! take turns, and the table has the medians. A job that takes well under a microsecond is done many times a round.
+//! take turns, and the table has the medians. A job that takes well under a microsecond is done many times a round. In the
+//! line "read, 1 byte, tested" a Rust function that makes the port's tests takes the original's place.
+
+mod checked;
 
 use cases::paper::{Chip, CHIPS};
 use cases::rng::Rng;
@@ -26,6 +29,7 @@ fn main() {
         bench.commit_changed();
         bench.commit_unchanged();
         bench.read_byte();
+        bench.read_byte_tested();
         bench.write_byte();
         bench.copy();
     }
@@ -144,6 +148,23 @@ impl Bench {
             micros(|| (0..TINY).for_each(one)) / TINY as f64
         };
         side_by_side(self.chip.name, "read, 1 byte", original, port);
+    }
+
+    fn read_byte_tested(&mut self) {
+        let place = self.chip.save / 2;
+        let (mut theirs, mut ours) = ([0], [1]);
+        let (mut kept, mut m) = (self.m, self.m);
+        let tested = || {
+            let one = |_| kept = accepted(checked::read(&self.image, kept, black_box(place), &mut theirs));
+            micros(|| (0..TINY).for_each(one)) / TINY as f64
+        };
+        let mut image = self.image.clone();
+        let port = || {
+            let one = |_| m = accepted(port::read(&mut image, m, black_box(place), &mut ours));
+            micros(|| (0..TINY).for_each(one)) / TINY as f64
+        };
+        side_by_side(self.chip.name, "read, 1 byte, tested", tested, port);
+        assert!(theirs == ours && kept == m);
     }
 
     fn write_byte(&mut self) {

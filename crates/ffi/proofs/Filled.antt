@@ -1,5 +1,5 @@
 -- An array that a loop fills from the front with a list's images. Assumes nothing.
-use mathlib.Core.Path.{_≡_, refl, ap, sym, _∙_}
+use mathlib.Core.Path.{_≡_, ap, sym, _∙_}
 use mathlib.Core.List.{List, [], _∷_, _++_, map}
 use Prim.Native.Nat.{ℕ, _+_, _<_}
 use native.Mathlib.Numerals.{add-one}
@@ -12,9 +12,6 @@ module _ {A B : Type 0} (f : A → B) (bs : List A) (n : ℕ) where
   pub record Filled (i : ℕ) (l : List B) : Type 0 where
     pub long : length l ≡ n
     pub same : take i l ≡ take i (map f bs)
-
-  pub begin : (l : List B) → length l ≡ n → Filled 0 l
-  begin l h = record { long = h; same = refl }
 
   pub step
       : (i : ℕ) (l : List B) (d : A) (v : B)

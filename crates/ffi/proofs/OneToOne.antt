@@ -1,7 +1,7 @@
 -- The crossing is one to one on the conditions 0 to 2: out and in again is the mapping that went out, and in and out again the
 -- struct that came in, where its condition bytes are conditions. Both record by record. Assumes nothing.
 use mathlib.Core.Path.{_≡_, refl, ap, sym, _∙_}
-use mathlib.Core.Bool.{true}
+use mathlib.Core.Bool.{true, false}
 use mathlib.Core.List.{List, [], _∷_, map}
 use Prim.Native.Nat.{ℕ, zero, suc, _≤_, _<_}
 use native.Mathlib.Omega.{arith}
@@ -9,11 +9,15 @@ use borrow.Author.Tests.{leb-true, le-leb}
 use lib.Dec.{leb}
 use lib.ListN.{length, getD, List·getD-map}
 use Rattle.lists.proofs.Tests.{all-at, all-by}
+use Rattle.chip.specs.declared.Answer.the-variants.{DoesNotFit}
 use Rattle.chip.specs.declared.Block.{Block}
 use Rattle.chip.specs.declared.Condition.{Condition}
 use Rattle.chip.specs.declared.Condition.the-variants.{Free, Clean, Changed}
 use Rattle.chip.specs.declared.Mapping.{Mapping}
-use Rattle.chip.specs.Blocks.{records, noBlock, lenOf}
+use Rattle.chip.specs.Blocks.{records, noBlock, lenOf, blank}
+use Rattle.wear_leveling.specs.Save.{admission}
+use Rattle.wear_leveling.specs.Commit.{commitAnswer}
+use Rattle.wear_leveling.proofs.Admission.{blank-admission, blank-commit}
 use Rattle.ffi.specs.declared.CBlock.{CBlock}
 use Rattle.ffi.specs.declared.CMapping.{CMapping}
 use Rattle.ffi.specs.Crossing.{conditionNo, conditionOf, blockC, blockFromC, toC, fromC, noBlockC, knownAt, known, lenC}
@@ -32,10 +36,23 @@ blocks-back : (bs : List Block) → map blockFromC (map blockC bs) ≡ bs
 blocks-back [] = refl
 blocks-back (b ∷ bs) = λ i. block-back b i ∷ blocks-back bs i
 
+-- every condition byte that goes out is a condition
+number-low : (d : Condition) → conditionNo d ≤ conditionNo Changed
+number-low Free = omega arith
+number-low Clean = omega arith
+number-low Changed = omega arith
+
+pub sent-known : (m : Mapping) → known (toC m .blocks) ≡ true
+unfolding known toC
+sent-known m =
+    all-by (knownAt (toC m .blocks)) records
+    (λ v l. ap (λ (b : CBlock). leb (b .condition) (conditionNo Changed)) (List·getD-map blockC (m .blocks) v noBlock)
+    ∙ le-leb _ _ (number-low (getD (m .blocks) v noBlock .condition)))
+
 -- a mapping out and in again
 pub back : (m : Mapping) → fromC (toC m) ≡ m
 unfolding fromC toC
-back m = λ i. record { len = m .len; blocks = blocks-back (m .blocks) i; tickets = m .tickets }
+back m = rw (sent-known m) (λ i. record { len = m .len; blocks = blocks-back (m .blocks) i; tickets = m .tickets })
 
 -- so two mappings that go out as the same struct are the same
 pub apart : (m n : Mapping) → toC m ≡ toC n → m ≡ n
@@ -60,29 +77,29 @@ blocks-there [] h = refl
 blocks-there (b ∷ bs) h = λ i. block-there b (h 0 (omega arith)) i ∷ blocks-there bs (λ v l. h (suc v) (omega arith)) i
 
 -- a struct in and out again
-pub there : (c : CMapping) → length (c .blocks) ≡ records → known c ≡ true → toC (fromC c) ≡ c
+pub there : (c : CMapping) → length (c .blocks) ≡ records → known (c .blocks) ≡ true → toC (fromC c) ≡ c
 unfolding fromC toC known
-there c n k = λ i. record { len = c .len; blocks = kept i; tickets = c .tickets }
+there c n k = rw k (λ i. record { len = c .len; blocks = kept i; tickets = c .tickets })
   where
     kept : map blockC (map blockFromC (c .blocks)) ≡ c .blocks
     kept =
         blocks-there (c .blocks)
-        (λ v l. leb-true (getD (c .blocks) v noBlockC .condition) (conditionNo Changed) (all-at (knownAt c) records v k (omega (arith, n))))
+        (λ v l. leb-true (getD (c .blocks) v noBlockC .condition) (conditionNo Changed) (all-at (knownAt (c .blocks)) records v k (omega (arith, n))))
 
--- every condition byte that goes out is a condition
-number-low : (d : Condition) → conditionNo d ≤ conditionNo Changed
-number-low Free = omega arith
-number-low Clean = omega arith
-number-low Changed = omega arith
-
-pub sent-known : (m : Mapping) → known (toC m) ≡ true
-unfolding known toC
-sent-known m =
-    all-by (knownAt (toC m)) records
-    (λ v l. ap (λ (b : CBlock). leb (b .condition) (conditionNo Changed)) (List·getD-map blockC (m .blocks) v noBlock)
-    ∙ le-leb _ _ (number-low (getD (m .blocks) v noBlock .condition)))
-
--- `lw_len` gives what `len` gives of the mapping that came in, known or not
-pub len-same : (c : CMapping) → lenC c ≡ lenOf (fromC c)
+-- `lw_len` gives what `len` gives of the mapping that comes in
+pub len-same : (c : CMapping) → known (c .blocks) ≡ true → lenC c ≡ lenOf (fromC c)
 unfolding lenC lenOf fromC
-len-same c = refl
+len-same c k = rw k
+
+-- a struct with a byte that is no condition comes in as the blank mapping, which every call refuses with 8
+pub unknown-blank : (c : CMapping) → known (c .blocks) ≡ false → fromC c ≡ blank
+unfolding fromC
+unknown-blank c k = rw k
+
+pub unknown-admission
+    : (c : CMapping) (n place k : ℕ)
+    → known (c .blocks) ≡ false → admission n (fromC c) place k ≡ DoesNotFit
+unknown-admission c n place k u = rw (unknown-blank c u) (blank-admission n place k)
+
+pub unknown-commit : (c : CMapping) (n : ℕ) → known (c .blocks) ≡ false → commitAnswer n (fromC c) ≡ DoesNotFit
+unknown-commit c n u = rw (unknown-blank c u) (blank-commit n)

@@ -1,8 +1,8 @@
 // The calls that C makes, which include/ladlewillow.h declares: the six of wear_leveling and the sum. A mapping crosses as the
-// same struct with each condition as a byte; a byte that is no condition is a mapping that does not fit.
+// same struct with each condition as a byte; a byte that is no condition makes it one that fits no image.
 ghost use mathlib.Core.Path.{_≡_};
+ghost use mathlib.Core.List.{map};
 ghost use lib.ListN.{length};
-ghost use Rattle.lists.specs.Words.{pick};
 ghost use Rattle.crc16.specs.Crc.{crc16};
 ghost use Rattle.chip.specs.Outcomes.{outcome};
 ghost use Rattle.wear_leveling.specs.Open.{openOf};
@@ -10,7 +10,7 @@ ghost use Rattle.wear_leveling.specs.Save.{admission, readInto};
 ghost use Rattle.wear_leveling.specs.Write.{afterWrite};
 ghost use Rattle.wear_leveling.specs.Commit.{commitAnswer, afterCommit};
 ghost use Rattle.wear_leveling.specs.Format.{formatAnswer, afterFormat};
-ghost use Rattle.ffi.specs.Crossing.{conditionNo, conditionOf, blockC, blockFromC, toC, fromC, known, answerC, outcomeC, unfit, lenC};
+ghost use Rattle.ffi.specs.Crossing.{conditionNo, conditionOf, blockC, blockFromC, known, toC, fromC, answerC, answered, outcomeC, lenC};
 use chip::Answer;
 use chip::Block;
 use chip::Chip;
@@ -74,13 +74,13 @@ fn condition_number(c: Condition) -> u8
 fn condition_of(n: u8) -> Condition
     ensures { λ r. ⌜ r ≡ conditionOf n ⌝ }
 {
-    if n == CBlock::FREE {
-        return Condition::Free;
+    if CBlock::CHANGED <= n {
+        return Condition::Changed;
     }
     if n == CBlock::CLEAN {
         return Condition::Clean;
     }
-    Condition::Changed
+    Condition::Free
 }
 
 // A block's record on its way out.
@@ -108,9 +108,9 @@ fn block_from_c(b: CBlock) -> Block
     }
 }
 
-// A mapping on its way out.
-fn to_c(m: Mapping) -> CMapping
-    ensures { λ r. ⌜ r ≡ toC m ⌝ }
+// The records of a mapping on their way out.
+fn blocks_to_c(from: [Block; Chip::RECORDS]) -> [CBlock; Chip::RECORDS]
+    ensures { λ r. ⌜ r ≡ map blockC from ⌝ }
 {
     let none = CBlock {
         physical: 0,
@@ -120,21 +120,16 @@ fn to_c(m: Mapping) -> CMapping
     let mut blocks = [none; Chip::RECORDS];
     let mut i: usize = 0;
     while i < Chip::RECORDS {
-        let b = m.blocks[i];
+        let b = from[i];
         blocks[i] = block_to_c(b);
         i += 1;
     }
-    let tickets = m.tickets;
-    CMapping {
-        len: m.image_len(),
-        blocks: blocks,
-        tickets: tickets,
-    }
+    blocks
 }
 
-// A mapping on its way in; `known` says whether its condition bytes are conditions.
-fn from_c(c: CMapping) -> Mapping
-    ensures { λ r. ⌜ r ≡ fromC c ⌝ }
+// The records of a mapping on their way in.
+fn blocks_from_c(from: [CBlock; Chip::RECORDS]) -> [Block; Chip::RECORDS]
+    ensures { λ r. ⌜ r ≡ map blockFromC from ⌝ }
 {
     let none = Block {
         physical: Physical(0),
@@ -144,26 +139,52 @@ fn from_c(c: CMapping) -> Mapping
     let mut blocks = [none; Chip::RECORDS];
     let mut i: usize = 0;
     while i < Chip::RECORDS {
-        let b = c.blocks[i];
+        let b = from[i];
         blocks[i] = block_from_c(b);
         i += 1;
     }
-    let tickets = c.tickets;
-    Mapping::new(c.len, blocks, tickets)
+    blocks
 }
 
 // Whether each condition byte, of the records past V too, is a condition.
-fn is_known(c: CMapping) -> bool
-    ensures { λ r. ⌜ r ≡ known c ⌝ }
+fn is_known(from: [CBlock; Chip::RECORDS]) -> bool
+    ensures { λ r. ⌜ r ≡ known from ⌝ }
 {
     let mut ok = true;
     let mut i: usize = 0;
     while i < Chip::RECORDS {
-        let b = c.blocks[i];
+        let b = from[i];
         ok = ok & (b.condition <= CBlock::CHANGED);
         i += 1;
     }
     ok
+}
+
+// A mapping on its way out.
+fn to_c(m: Mapping) -> CMapping
+    ensures { λ r. ⌜ r ≡ toC m ⌝ }
+{
+    let from = m.blocks;
+    let blocks = blocks_to_c(from);
+    let tickets = m.tickets;
+    CMapping {
+        len: m.image_len(),
+        blocks: blocks,
+        tickets: tickets,
+    }
+}
+
+// A mapping on its way in: the blank one, which fits no image, where a condition byte is no condition.
+fn from_c(c: CMapping) -> Mapping
+    ensures { λ r. ⌜ r ≡ fromC c ⌝ }
+{
+    let from = c.blocks;
+    if !is_known(from) {
+        return Mapping::blank();
+    }
+    let blocks = blocks_from_c(from);
+    let tickets = c.tickets;
+    Mapping::new(c.len, blocks, tickets)
 }
 
 // An answer on its way out.
@@ -178,30 +199,28 @@ fn answer_to_c(a: Answer) -> CAnswer
     }
 }
 
-// An outcome on its way out.
-fn outcome_to_c(o: Outcome) -> COutcome
-    ensures { λ r. ⌜ r ≡ outcomeC o ⌝ }
+// An answer with a mapping that stays as it came.
+fn answered(a: Answer, c: CMapping) -> COutcome
+    ensures { λ r. ⌜ r ≡ answered a c ⌝ }
 {
-    let a = o.answer;
+    let mapping = c;
     let answer = answer_to_c(a);
-    let m = o.mapping;
-    let mapping = to_c(m);
     COutcome {
         answer: answer,
         mapping: mapping,
     }
 }
 
-// 8, with a mapping that has a byte that is no condition: it goes back as it came.
-fn refuse(c: CMapping) -> COutcome
-    ensures { λ r. ⌜ r ≡ unfit c ⌝ }
+// An outcome on its way out, with the mapping that the call got: a refusal hands that back as it came.
+fn outcome_to_c(o: Outcome, c: CMapping) -> COutcome
+    ensures { λ r. ⌜ r ≡ outcomeC o c ⌝ }
 {
-    let mapping = c;
-    let answer = answer_to_c(Answer::DoesNotFit);
-    COutcome {
-        answer: answer,
-        mapping: mapping,
+    let a = o.answer;
+    if a.number() == 0 {
+        let m = o.mapping;
+        return answered(a, to_c(m));
     }
+    answered(a, c)
 }
 
 // The sum of any bytes; 0xFFFF of none.
@@ -225,10 +244,12 @@ pub extern "C" fn lw_format(image: &mut [u8]) -> CAnswer
 // Opens an image of any length; nothing is stored.
 #[no_mangle]
 pub extern "C" fn lw_open(image: &[u8]) -> COutcome
-    ensures { λ r. ⌜ r ≡ outcomeC (openOf (now (image .entry))) ⌝ }
+    ensures { λ r. ⌜ r ≡ answered (openOf (now (image .entry)) .answer) (toC (openOf (now (image .entry)) .mapping)) ⌝ }
 {
     let o = wear_leveling::open(image);
-    outcome_to_c(o)
+    let a = o.answer;
+    let m = o.mapping;
+    answered(a, to_c(m))
 }
 
 // The bytes of the save that a mapping belongs to, by its length alone; 0 for a length that is no chip's.
@@ -243,41 +264,33 @@ pub extern "C" fn lw_len(m: CMapping) -> usize
     }
 }
 
-// Reads buf.len() bytes of the save from `place` on.
+// Reads buf.len() bytes of the save from `place` on; the mapping goes back as it came.
 #[no_mangle]
 pub extern "C" fn lw_read(image: &[u8], m: CMapping, place: usize, buf: &mut [u8]) -> COutcome
-    ensures { λ r. ⌜ r ≡ pick (known m) (outcomeC (outcome (admission (length (now (image .entry))) (fromC m) place (length (now (buf .entry)))) (fromC m))) (unfit m) ⌝ }
-    ensures { λ r. ⌜ now (buf .exit) ≡ pick (known m) (readInto (now (image .entry)) (fromC m) place (now (buf .entry))) (now (buf .entry)) ⌝ }
+    ensures { λ r. ⌜ r ≡ answered (admission (length (now (image .entry))) (fromC m) place (length (now (buf .entry)))) m ⌝ }
+    ensures { λ r. ⌜ now (buf .exit) ≡ readInto (now (image .entry)) (fromC m) place (now (buf .entry)) ⌝ }
 {
-    if !is_known(m) {
-        return refuse(m);
-    }
     let o = wear_leveling::read(image, from_c(m), place, buf);
-    outcome_to_c(o)
+    let a = o.answer;
+    answered(a, m)
 }
 
 // Writes `bytes` into the save from `place` on.
 #[no_mangle]
 pub extern "C" fn lw_write(image: &mut [u8], m: CMapping, place: usize, bytes: &[u8]) -> COutcome
-    ensures { λ r. ⌜ r ≡ pick (known m) (outcomeC (outcome (admission (length (now (image .entry))) (fromC m) place (length (now (bytes .entry)))) (afterWrite (now (image .entry)) (fromC m) place (now (bytes .entry)) .mapping))) (unfit m) ⌝ }
-    ensures { λ r. ⌜ now (image .exit) ≡ pick (known m) (afterWrite (now (image .entry)) (fromC m) place (now (bytes .entry)) .image) (now (image .entry)) ⌝ }
+    ensures { λ r. ⌜ r ≡ outcomeC (outcome (admission (length (now (image .entry))) (fromC m) place (length (now (bytes .entry)))) (afterWrite (now (image .entry)) (fromC m) place (now (bytes .entry)) .mapping)) m ⌝ }
+    ensures { λ r. ⌜ now (image .exit) ≡ afterWrite (now (image .entry)) (fromC m) place (now (bytes .entry)) .image ⌝ }
 {
-    if !is_known(m) {
-        return refuse(m);
-    }
     let o = wear_leveling::write(image, from_c(m), place, bytes);
-    outcome_to_c(o)
+    outcome_to_c(o, m)
 }
 
 // Commits: block zero from the mapping, and no block changed any more.
 #[no_mangle]
 pub extern "C" fn lw_commit(image: &mut [u8], m: CMapping) -> COutcome
-    ensures { λ r. ⌜ r ≡ pick (known m) (outcomeC (outcome (commitAnswer (length (now (image .entry))) (fromC m)) (afterCommit (now (image .entry)) (fromC m) .mapping))) (unfit m) ⌝ }
-    ensures { λ r. ⌜ now (image .exit) ≡ pick (known m) (afterCommit (now (image .entry)) (fromC m) .image) (now (image .entry)) ⌝ }
+    ensures { λ r. ⌜ r ≡ outcomeC (outcome (commitAnswer (length (now (image .entry))) (fromC m)) (afterCommit (now (image .entry)) (fromC m) .mapping)) m ⌝ }
+    ensures { λ r. ⌜ now (image .exit) ≡ afterCommit (now (image .entry)) (fromC m) .image ⌝ }
 {
-    if !is_known(m) {
-        return refuse(m);
-    }
     let o = wear_leveling::commit(image, from_c(m));
-    outcome_to_c(o)
+    outcome_to_c(o, m)
 }

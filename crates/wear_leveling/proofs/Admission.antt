@@ -1,4 +1,5 @@
--- The three ways that the tests for 8 and 9 can go, and what is shown where both were passed. Assumes nothing.
+-- The three ways that the tests for 8 and 9 can go, what is shown where both were passed, and that the blank mapping passes
+-- none. Assumes nothing.
 use mathlib.Core.Path.{_≡_}
 use mathlib.Core.Bool.{true, false}
 use mathlib.Core.List.{List}
@@ -11,12 +12,14 @@ use Rattle.lists.proofs.Tests.{and-left, and-right}
 use Rattle.chip.specs.declared.Answer.the-variants.{Accepted, DoesNotFit, OutOfRange}
 use Rattle.chip.specs.declared.Mapping.{Mapping}
 use Rattle.chip.specs.Answers.{inSave}
-use Rattle.chip.specs.Blocks.{lenOf}
+use Rattle.chip.specs.Blocks.{lenOf, blank}
 use Rattle.chip.specs.Fits.{fits}
+use Rattle.chip.specs.Fits.Laws.{blank-unfit}
 use Rattle.chip.proofs.Layouts.{sound}
 use Rattle.wear_leveling.specs.Save.{admission}
 use Rattle.wear_leveling.specs.Readable.{Readable}
 use Rattle.wear_leveling.specs.Write.{CanWrite}
+use Rattle.wear_leveling.specs.Commit.{commitAnswer}
 use Rattle.wear_leveling.proofs.Fitting.{Fitting, fitting, fits-lies}
 
 module _ (n : ℕ) (m : Mapping) (place k : ℕ) where
@@ -56,3 +59,11 @@ module _
           few = omega (arith, sound (c .chip) .few, c .save);
           lies = λ v h. fits-lies image m f (c .chip) (c .known) .within v (omega (arith, c .save, h));
         }
+
+-- the blank mapping: "read, write and commit refuse it with 8"
+pub blank-admission : (n place k : ℕ) → admission n blank place k ≡ DoesNotFit
+blank-admission n place k = not-fitting n blank place k (blank-unfit n)
+
+pub blank-commit : (n : ℕ) → commitAnswer n blank ≡ DoesNotFit
+unfolding commitAnswer
+blank-commit n = rw (blank-unfit n)

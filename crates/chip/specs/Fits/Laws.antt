@@ -1,13 +1,14 @@
 -- What is known of a mapping that fits, for those who may not look into the shut definitions: by the chip of its length it
--- is `fitsAs`, and without one it does not fit. Assumes nothing.
-use mathlib.Core.Path.{_≡_, refl}
-use mathlib.Core.Bool.{false, _&&_}
+-- is `fitsAs`, and without one it does not fit, as the blank mapping never does. Assumes nothing.
+use mathlib.Core.Path.{_≡_, refl, _∙_}
+use mathlib.Core.Bool.{Bool, true, false, _&&_}
 use Prim.Native.Nat.{ℕ}
 use lib.Dec.{eqb}
 use Rattle.chip.specs.declared.Chip.{Chip}
 use Rattle.chip.specs.declared.ChipOf.the-variants.{Known, Unknown}
 use Rattle.chip.specs.declared.Mapping.{Mapping}
 use Rattle.chip.specs.Figures.{layoutOf, fromLen}
+use Rattle.chip.specs.Blocks.{blank}
 use Rattle.chip.specs.Fits.{fitsAs, fitsOwn, fits}
 
 module _ (m : Mapping) where
@@ -22,3 +23,12 @@ module _ (m : Mapping) where
   pub fits-is : (n : ℕ) → fits n m ≡ (eqb (m .len) n && fitsOwn m)
   unfolding fits
   fits-is n = refl
+
+-- the blank mapping fits no image
+pub blank-unfit : (n : ℕ) → fits n blank ≡ false
+unfolding blank fromLen
+blank-unfit n = fits-is blank n ∙ rw (own-unknown blank refl) (go (eqb 0 n))
+  where
+    go : (a : Bool) → (a && false) ≡ false
+    go true = refl
+    go false = refl

@@ -4,17 +4,17 @@ use Prim.Native.Nat.{_≤_, _-_}
 use native.Mathlib.Omega.{arith}
 use borrow.Author.Needs.{needs}
 use Rattle.lists.proofs.Tests.{all-more}
-use Rattle.chip.specs.Blocks.{records}
 use Rattle.lists.specs.Words.{all}
+use Rattle.chip.specs.Blocks.{records}
 use Rattle.ffi.specs.Crossing.{knownAt, known}
 use Rattle.ffi.proofs.is_known.Statement.{statement}
 use Rattle.ffi.proofs.is_known.Tie as tie
 
 abbrev Inv-loop : tie.InvT-loop
-Inv-loop c ok₀ i₀ ok i = (i ≤ records) × (ok ≡ all (knownAt c) i)
+Inv-loop from ok₀ i₀ ok i = (i ≤ records) × (ok ≡ all (knownAt from) i)
 
 abbrev μ-loop : tie.MeasureT-loop
-μ-loop c ok₀ i₀ ok i = records - i
+μ-loop from ok₀ i₀ ok i = records - i
 
 loop-holds : tie.Need-loop-holds Inv-loop μ-loop
 unfolding all
@@ -23,8 +23,8 @@ loop-holds c = (omega arith, refl)
 mul-b : tie.Need-mul-b Inv-loop μ-loop
 mul-b c = search needs
 
-element-copy-out-b : tie.Need-element-copy-out-b Inv-loop μ-loop
-element-copy-out-b c = search needs
+array-copy-out-b : tie.Need-array-copy-out-b Inv-loop μ-loop
+array-copy-out-b c = search needs
 
 add-i : tie.Need-add-i Inv-loop μ-loop
 add-i c = search needs
@@ -47,13 +47,4 @@ returns c =
 pub is-known-spec : {M : Type 1} → statement M
 is-known-spec =
     tie.close
-    (tie.spec
-    Inv-loop
-    μ-loop
-    loop-holds
-    mul-b
-    element-copy-out-b
-    add-i
-    loop-less
-    loop-again
-    returns)
+    (tie.spec Inv-loop μ-loop loop-holds mul-b array-copy-out-b add-i loop-less loop-again returns)

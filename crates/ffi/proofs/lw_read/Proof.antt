@@ -1,22 +1,8 @@
--- `lw_read` meets its contract: a struct that is not known goes back before anything is read, and otherwise it is what `read`
--- ensures of the mapping that came in, on the way out. Assumes nothing.
-use mathlib.Core.Path.{sym, ap, _∙_}
-use borrow.Author.Tests.{not-true, not-false}
+-- `lw_read` meets its contract: what `read` ensures of the mapping that came in, with the struct as it came. Assumes nothing.
+use mathlib.Core.Path.{_∙_}
 use borrow.Author.Needs.{needs}
-use Rattle.ffi.specs.Crossing.{outcomeC}
 use Rattle.ffi.proofs.lw_read.Statement.{statement}
 use Rattle.ffi.proofs.lw_read.Tie as tie
-
-is-known-requires : tie.Need-is-known-requires
-is-known-requires c κs = search needs
-
-refuse-requires : tie.Need-refuse-requires
-refuse-requires c κs = search needs
-
-returns : tie.Need-returns
-returns c =
-    let k = sym (c .before .before .is-known .ensures) ∙ not-true _ (c .before .if1 .taken) in
-    (c .refuse .ensures ∙ rw k, rw k)
 
 from-c-requires : tie.Need-from-c-requires
 from-c-requires c κs = search needs
@@ -24,28 +10,18 @@ from-c-requires c κs = search needs
 read-requires : tie.Need-read-requires
 read-requires c κs = search needs
 
-outcome-to-c-requires : tie.Need-outcome-to-c-requires
-outcome-to-c-requires c κs = search needs
+answered-requires : tie.Need-answered-requires
+answered-requires c κs = search needs
 
 same-length : tie.Need-same-length
 same-length c = search needs
 
-returns-2 : tie.Need-returns-2
-returns-2 c =
-    let k = sym (c .before .before .before .before .before .before .before .is-known .ensures) ∙ not-false _ (c .before .before .before .before .before .before .if1 .left) in
+returns : tie.Need-returns
+returns c =
     let m = c .before .before .before .before .before .from-c .ensures in
     let done = c .before .before .before .read .ensures in
-    (c .outcome-to-c .ensures ∙ rw (k, ← m) (ap outcomeC (done .0)), rw (k, ← m) (done .1))
+    (c .answered .ensures ∙ rw (← m) (cc (done .0)), rw (← m) (done .1))
 
 pub lw-read-spec : {M : Type 1} → statement M
 lw-read-spec =
-    tie.close
-    (tie.spec
-    is-known-requires
-    refuse-requires
-    returns
-    from-c-requires
-    read-requires
-    outcome-to-c-requires
-    same-length
-    returns-2)
+    tie.close (tie.spec from-c-requires read-requires answered-requires same-length returns)
