@@ -15,7 +15,7 @@ use Rattle.chip.specs.declared.Condition.{Condition}
 use Rattle.chip.specs.declared.Condition.the-variants.{Free, Clean, Changed}
 use Rattle.chip.specs.declared.Mapping.{Mapping}
 use Rattle.chip.specs.Blocks.{records, noBlock, lenOf, blank}
-use Rattle.wear_leveling.specs.Save.{admission}
+use Rattle.wear_leveling.specs.Read.{admission}
 use Rattle.wear_leveling.specs.Commit.{commitAnswer}
 use Rattle.wear_leveling.proofs.Admission.{blank-admission, blank-commit}
 use Rattle.ffi.specs.declared.CBlock.{CBlock}

@@ -15,7 +15,7 @@ use Rattle.chip.specs.declared.Outcome.{Outcome}
 use Rattle.chip.specs.Figures.{layoutOf, saveLen, fromLen, byChip}
 use Rattle.chip.specs.Blocks.{blockOf, mappingOf, records, blank}
 use Rattle.chip.specs.Answers.{numberOf, answerPlace}
-use Rattle.wear_leveling.specs.Save.{ifAccepted}
+use Rattle.wear_leveling.specs.Read.{ifAccepted}
 use Rattle.ffi.specs.declared.CBlock.{CBlock}
 use Rattle.ffi.specs.declared.CMapping.{CMapping}
 use Rattle.ffi.specs.declared.CAnswer.{CAnswer}

@@ -6,7 +6,7 @@ ghost use lib.ListN.{length};
 ghost use Rattle.crc16.specs.Crc.{crc16};
 ghost use Rattle.chip.specs.Outcomes.{outcome};
 ghost use Rattle.wear_leveling.specs.Open.{openOf};
-ghost use Rattle.wear_leveling.specs.Save.{admission, readInto};
+ghost use Rattle.wear_leveling.specs.Read.{admission, readInto};
 ghost use Rattle.wear_leveling.specs.Write.{afterWrite};
 ghost use Rattle.wear_leveling.specs.Commit.{commitAnswer, afterCommit};
 ghost use Rattle.wear_leveling.specs.Format.{formatAnswer, afterFormat};

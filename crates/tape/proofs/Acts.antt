@@ -1,10 +1,10 @@
 -- What the laws rule out, shown on the definitions themselves: a library that refuses everything, a read of constant 0xFF and
 -- a write that stores nothing, a commit that does nothing, a replay that skips entries or makes counts up. A definition that
 -- did one of these would break the theorem beside it. Assumes nothing.
-use mathlib.Core.Path.{_≡_, refl, sym, ap, _∙_}
+use mathlib.Core.Path.{_≡_, ap}
 use mathlib.Core.Bool.{true, false}
 use mathlib.Core.List.{List, [], _∷_}
-use Prim.Native.Nat.{ℕ, _+_, _-_, _*_, _<_, _≤_}
+use Prim.Native.Nat.{ℕ, _+_, _*_, _<_}
 use native.Mathlib.Omega.{arith}
 use lib.ListN.{length, getD}
 use Rattle.lists.proofs.Orders.{not-both}
@@ -16,18 +16,21 @@ use Rattle.chip.specs.declared.Condition.the-variants.{Clean, Changed}
 use Rattle.chip.specs.declared.Found.the-variants.{Nothing}
 use Rattle.chip.specs.declared.Mapping.{Mapping}
 use Rattle.chip.specs.Figures.{Layout, layoutOf, virtuals, sectors, imageLen, fromLen}
-use Rattle.chip.specs.Blocks.{records, blockOf, blockAt, lenOf}
+use Rattle.chip.specs.Blocks.{records, blockOf, blockAt}
 use Rattle.chip.specs.Outcomes.{outcome}
 use Rattle.block_map.specs.Put.{fresh, formatted}
 use Rattle.journal.specs.declared.Entry.{Entry}
 use Rattle.journal.specs.Entries.{entryOk, applied}
 use Rattle.journal.specs.Replay.{replay}
 use Rattle.journal.proofs.Relational.{applied-moved}
+use Rattle.committing.specs.Committed.{isChanged}
+use Rattle.save.specs.Save.{saveBytes}
+use Rattle.save.specs.Visits.{state}
+use Rattle.save.proofs.ByBlocks.{length-save}
 use Rattle.wear_leveling.specs.Open.{openOf}
-use Rattle.wear_leveling.specs.Save.{admission, saveBytes, readInto}
-use Rattle.wear_leveling.specs.Write.{State, state, written, afterWrite}
-use Rattle.wear_leveling.specs.Commit.{isChanged, commitAnswer, afterCommit}
-use Rattle.wear_leveling.proofs.ByBlocks.{length-save}
+use Rattle.wear_leveling.specs.Read.{admission}
+use Rattle.wear_leveling.specs.Write.{afterWrite}
+use Rattle.wear_leveling.specs.Commit.{commitAnswer, afterCommit}
 use Rattle.wear_leveling.proofs.Commits.{commit-clean}
 use Rattle.tape.proofs.Formatted.{formatted-opens}
 use Rattle.tape.proofs.Granted.{write-is, accepted-can}

@@ -35,8 +35,8 @@ use Rattle.journal.specs.Entries.{applied}
 use Rattle.journal.specs.Moved.{Moved}
 use Rattle.journal.specs.Opened.{Opened}
 use Rattle.journal.proofs.Accepted.{accepted-fits}
-use Rattle.wear_leveling.specs.Tickets.{badTicket}
-use Rattle.wear_leveling.specs.Open.{ticketsOf, openOf}
+use Rattle.tickets.specs.Tickets.{badTicket, ticketsOf}
+use Rattle.wear_leveling.specs.Open.{openOf}
 use Rattle.wear_leveling.specs.Commit.{commitAnswer}
 use Rattle.tape.specs.Cases.{Claim, L, slotOf, withSlots, entryL, nearL, BeforeL, AsL, Sized, Eight}
 use Rattle.tape.proofs.Formatted.{fresh-opened}

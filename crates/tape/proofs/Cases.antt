@@ -34,11 +34,12 @@ use Rattle.journal.specs.Entries.{twins, entryOf, entryLen, entryOk, allowed, a
 use Rattle.journal.specs.Moved.{Moved}
 use Rattle.journal.specs.Replay.{journalOf}
 use Rattle.journal.specs.Steps.{steps1to6}
+use Rattle.tickets.proofs.Fitting.{fits-save}
+use Rattle.save.specs.Visits.{firstCount, visitedBlock, visit, visits, written}
 use Rattle.wear_leveling.specs.Open.{openOf}
-use Rattle.wear_leveling.specs.Save.{admission}
-use Rattle.wear_leveling.specs.Write.{firstCount, visitedBlock, visit, visits, written, afterWrite}
+use Rattle.wear_leveling.specs.Read.{admission}
+use Rattle.wear_leveling.specs.Write.{afterWrite}
 use Rattle.wear_leveling.proofs.Admission.{admitted, out-of-range}
-use Rattle.wear_leveling.proofs.Fitting.{fits-save}
 use Rattle.tape.specs.Cases.{Case, Claim, A, B, C, D, E, F, G, H, I, J, K, L, slotOf, formattedWith, stepsOn, entryE, Sized, Eight}
 use Rattle.tape.proofs.Formatted.{fresh-number, fresh-count, fresh-free, fresh-opened, fresh-low, fresh-reserved, fresh-fits, fresh-save, length-cleared}
 use Rattle.tape.proofs.Journaled.{slot-length, length-image, journal-decides, first-torn, second-refused}

@@ -14,9 +14,10 @@ use Rattle.chip.specs.Figures.{layoutOf}
 use Rattle.chip.specs.Fits.{fits}
 use Rattle.chip.specs.Answers.{numberOf, highCount, highCountOn}
 use Rattle.chip.specs.Outcomes.{outcome}
+use Rattle.save.specs.Save.{saveBytes}
+use Rattle.save.specs.Visits.{State, state}
 use Rattle.wear_leveling.specs.Open.{openOf}
-use Rattle.wear_leveling.specs.Save.{admission, saveBytes, readInto}
-use Rattle.wear_leveling.specs.Write.{State, state}
+use Rattle.wear_leveling.specs.Read.{admission, readInto}
 use Rattle.wear_leveling.specs.Commit.{commitAnswer, unlessHigh}
 use Rattle.tape.specs.Run.{Call, read, write, commit, after, onTape, afterAll, tapeAfter}
 use Rattle.tape.specs.Demand.{Kept}

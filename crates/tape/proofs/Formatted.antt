@@ -31,10 +31,10 @@ use Rattle.block_map.specs.Put.{fresh, formatted}
 use Rattle.block_map.proofs.Settled.{fresh-is, fresh-in}
 use Rattle.journal.specs.Opened.{Opened}
 use Rattle.journal.specs.Steps.{steps2to6}
-use Rattle.wear_leveling.specs.Tickets.{ticketIn, sectorFails, failsAt, badTicket}
-use Rattle.wear_leveling.specs.Open.{step7, openOf}
-use Rattle.wear_leveling.specs.Save.{byteAt, saveBytes}
-use Rattle.wear_leveling.proofs.Fitting.{fits-save}
+use Rattle.tickets.specs.Tickets.{ticketIn, sectorFails, failsAt, badTicket, step7}
+use Rattle.tickets.proofs.Fitting.{fits-save}
+use Rattle.save.specs.Save.{byteAt, saveBytes}
+use Rattle.wear_leveling.specs.Open.{openOf}
 use Rattle.tape.proofs.FreshOpen.{put-steps, put-opens}
 
 module _ (l : Layout) (s : Sound l) where

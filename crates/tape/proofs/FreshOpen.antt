@@ -9,11 +9,11 @@ use native.Mathlib.Omega.{arith}
 use borrow.Author.Tests.{not-false}
 use lib.ListN.{length, getD, take, drop, length-replicate}
 use lib.Seq.{take-take, drop-drop, length-take-le}
-use Rattle.crc16.specs.Crc.{crc16}
 use Rattle.lists.specs.Words.{rep}
 use Rattle.lists.proofs.Orders.{by-test}
 use Rattle.lists.proofs.Tests.{all-at}
 use Rattle.lists.proofs.Windows.{take-splice-in}
+use Rattle.crc16.specs.Crc.{crc16}
 use Rattle.chip.specs.declared.Answer.the-variants.{Accepted}
 use Rattle.chip.specs.declared.Chip.{Chip}
 use Rattle.chip.specs.declared.Found.the-variants.{Nothing}
@@ -33,8 +33,8 @@ use Rattle.block_map.proofs.RoundTrip.{put-length, put-behind, put-journal, put
 use Rattle.block_map.proofs.Settled.{Settled, settled-same}
 use Rattle.journal.specs.Opened.{Opened}
 use Rattle.journal.specs.Steps.{step6, steps2to6, steps1to6}
-use Rattle.wear_leveling.specs.Tickets.{sectorPlace, ticketIn, sectorFails, failsAt, badTicket}
-use Rattle.wear_leveling.specs.Open.{ticketsOf, openOf}
+use Rattle.tickets.specs.Tickets.{sectorPlace, ticketIn, sectorFails, failsAt, badTicket, ticketsOf}
+use Rattle.wear_leveling.specs.Open.{openOf}
 use Rattle.tape.proofs.Erased.{erased-journal}
 
 -- ---- what is put into block zero of a longer list is put into its block zero

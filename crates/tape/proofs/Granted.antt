@@ -13,8 +13,9 @@ use Rattle.chip.specs.Blocks.{lenOf}
 use Rattle.chip.specs.Answers.{inSave, numberOf}
 use Rattle.chip.specs.Fits.{fits}
 use Rattle.chip.proofs.Numbers.{zero-accepted}
-use Rattle.wear_leveling.specs.Save.{admission}
-use Rattle.wear_leveling.specs.Write.{state, written, CanWrite, afterWrite}
+use Rattle.save.specs.Visits.{state, written, CanWrite}
+use Rattle.wear_leveling.specs.Read.{admission}
+use Rattle.wear_leveling.specs.Write.{afterWrite}
 use Rattle.wear_leveling.proofs.Admission.{not-fitting, out-of-range, can-write}
 
 module _ (image : List ℕ) (m : Mapping) (place : ℕ) (d : List ℕ) where

@@ -31,12 +31,13 @@ use Rattle.chip.proofs.Searches.{first-misses, first-none}
 use Rattle.block_map.specs.Put.{putMap}
 use Rattle.block_map.proofs.RoundTrip.{put-length, put-journal}
 use Rattle.journal.specs.Opened.{Opened}
-use Rattle.wear_leveling.specs.Tickets.{ticketIn, sectorFails, failsAt, badTicket}
+use Rattle.tickets.specs.Tickets.{ticketIn, sectorFails, failsAt, badTicket}
+use Rattle.tickets.proofs.Fitting.{fits-len, fits-apart, fits-reserved}
+use Rattle.committing.specs.Committed.{isChanged, summed, settledRecord, newTicket, committed}
+use Rattle.save.specs.Save.{saveBytes}
+use Rattle.save.specs.Visits.{state}
 use Rattle.wear_leveling.specs.Open.{openOf}
-use Rattle.wear_leveling.specs.Save.{saveBytes}
-use Rattle.wear_leveling.specs.Write.{state}
-use Rattle.wear_leveling.specs.Commit.{isChanged, summed, settledRecord, newTicket, committed, unlessHigh, commitAnswer, committedOn, afterCommit}
-use Rattle.wear_leveling.proofs.Fitting.{fits-len, fits-apart, fits-reserved}
+use Rattle.wear_leveling.specs.Commit.{unlessHigh, commitAnswer, committedOn, afterCommit}
 use Rattle.wear_leveling.proofs.Commits.{committed-len, committed-record, committed-ticket, committed-block, committed-number, committed-free, committed-clean, commit-is, commit-fits, commit-mapping, commit-image, commit-save}
 use Rattle.tape.specs.Good.{Good}
 use Rattle.tape.proofs.FreshOpen.{ticket-same, put-opens}

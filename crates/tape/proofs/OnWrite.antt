@@ -19,9 +19,10 @@ use Rattle.chip.specs.Figures.{sectors}
 use Rattle.chip.specs.Blocks.{isFree, blockAt}
 use Rattle.chip.specs.Answers.{numberOf}
 use Rattle.chip.proofs.Numbers.{zero-accepted}
-use Rattle.wear_leveling.specs.Tickets.{ticketIn}
-use Rattle.wear_leveling.specs.Save.{admission, ifAccepted}
-use Rattle.wear_leveling.specs.Write.{State, state, written, afterWrite}
+use Rattle.tickets.specs.Tickets.{ticketIn}
+use Rattle.save.specs.Visits.{State, state, written}
+use Rattle.wear_leveling.specs.Read.{admission, ifAccepted}
+use Rattle.wear_leveling.specs.Write.{afterWrite}
 use Rattle.tape.specs.Demand.{Quiet}
 use Rattle.tape.specs.Good.{Good}
 use Rattle.tape.proofs.Granted.{write-is, write-refused}

@@ -1,9 +1,9 @@
 -- Runs hold refused calls: on the image of case L, straight after its accepted open, a write past the save is refused with 9
 -- and a commit with 10, and both leave image, mapping and tape as they are. Assumes nothing.
-use mathlib.Core.Path.{_≡_, refl, sym, ap, _∙_}
+use mathlib.Core.Path.{_≡_, sym, ap, _∙_}
 use mathlib.Core.Bool.{true}
 use mathlib.Core.List.{List, [], _∷_}
-use Prim.Native.Nat.{ℕ, _+_, _-_, _*_, _<_, _≤_}
+use Prim.Native.Nat.{ℕ, _+_, _<_}
 use native.Mathlib.Omega.{arith}
 use borrow.Author.Tests.{lt-leb}
 use lib.ListN.{length}
@@ -18,11 +18,12 @@ use Rattle.chip.specs.Outcomes.{outcome}
 use Rattle.chip.proofs.Layouts.{sound, from-own}
 use Rattle.block_map.specs.Put.{putMap}
 use Rattle.journal.specs.Entries.{entryLen}
+use Rattle.tickets.proofs.Fitting.{fits-save}
+use Rattle.save.specs.Visits.{state}
 use Rattle.wear_leveling.specs.Open.{openOf}
-use Rattle.wear_leveling.specs.Save.{admission}
-use Rattle.wear_leveling.specs.Write.{State, state, afterWrite}
+use Rattle.wear_leveling.specs.Read.{admission}
+use Rattle.wear_leveling.specs.Write.{afterWrite}
 use Rattle.wear_leveling.specs.Commit.{commitAnswer, afterCommit}
-use Rattle.wear_leveling.proofs.Fitting.{fits-save}
 use Rattle.tape.specs.Run.{write, commit, answerOf, afterAll, tapeAfter}
 use Rattle.tape.specs.Cases.{Sized, Eight, AsL, withSlots, slotOf, entryL, nearL}
 use Rattle.tape.proofs.CaseL.{case-l}

@@ -19,7 +19,7 @@ use Rattle.chip.specs.declared.Found.the-variants.{At, Nothing}
 use Rattle.chip.specs.declared.Mapping.{Mapping}
 use Rattle.chip.specs.declared.Outcome.{Outcome}
 use Rattle.chip.specs.Figures.{layoutOf, virtuals, blockLen, sectors, fromLen}
-use Rattle.chip.specs.Blocks.{blank, isFree, blockAt, numberAt}
+use Rattle.chip.specs.Blocks.{isFree, blockAt, numberAt}
 use Rattle.chip.specs.Fits.{fits}
 use Rattle.chip.specs.Fits.Laws.{own-known, fits-is}
 use Rattle.chip.specs.Answers.{numberOf}
@@ -30,10 +30,10 @@ use Rattle.chip.proofs.Searches.{first-none}
 use Rattle.journal.specs.Opened.{Opened, OpenedAs}
 use Rattle.journal.specs.Steps.{steps1to6}
 use Rattle.journal.proofs.Accepted.{accepted-as}
-use Rattle.wear_leveling.specs.Tickets.{ticketIn, sectorFails, failsAt, badTicket}
-use Rattle.wear_leveling.specs.Open.{step7, ticketsOf, openOf}
-use Rattle.wear_leveling.specs.Save.{saveBytes}
-use Rattle.wear_leveling.specs.Write.{state}
+use Rattle.tickets.specs.Tickets.{ticketIn, sectorFails, failsAt, badTicket, step7, ticketsOf}
+use Rattle.save.specs.Save.{saveBytes}
+use Rattle.save.specs.Visits.{state}
+use Rattle.wear_leveling.specs.Open.{openOf}
 use Rattle.tape.specs.Good.{Good}
 
 -- an accepted outcome of two steps comes from two accepted ones

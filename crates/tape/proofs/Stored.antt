@@ -14,8 +14,8 @@ use Rattle.lists.proofs.Windows.{take-slice}
 use Rattle.chip.specs.declared.Block.{Block}
 use Rattle.chip.specs.Figures.{blockLen, sectorLen, sectors, erased}
 use Rattle.chip.specs.Blocks.{isFree, blockAt, numberAt}
-use Rattle.wear_leveling.specs.Tickets.{sectorPlace}
-use Rattle.wear_leveling.specs.Write.{State, firstSector, endSector, openedImage, storedPart, partFrom, partEnd, visit, visitCount}
+use Rattle.tickets.specs.Tickets.{sectorPlace}
+use Rattle.save.specs.Visits.{State, firstSector, endSector, openedImage, storedPart, partFrom, partEnd, visit, visitCount}
 
 -- ---- the part of k bytes from place on that falls into sector s
 

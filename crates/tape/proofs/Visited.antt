@@ -18,10 +18,10 @@ use Rattle.chip.specs.declared.Mapping.{Mapping}
 use Rattle.chip.specs.Figures.{blockLen, sectors, erased}
 use Rattle.chip.specs.Blocks.{isFree, noBlock, blockAt, numberAt, freeAt, withBlock, lenOf}
 use Rattle.chip.specs.Fits.{Apart}
-use Rattle.wear_leveling.specs.Save.{byteAt, saveBytes}
-use Rattle.wear_leveling.specs.Write.{State, firstSector, endSector, visitedBlock, partFrom, partEnd, visit}
-use Rattle.wear_leveling.proofs.ByBlocks.{length-save, save-at}
-use Rattle.wear_leveling.proofs.Visits.{visit-number}
+use Rattle.save.specs.Save.{byteAt, saveBytes}
+use Rattle.save.specs.Visits.{State, firstSector, endSector, visitedBlock, partFrom, partEnd, visit}
+use Rattle.save.proofs.ByBlocks.{length-save, save-at}
+use Rattle.save.proofs.Visits.{visit-number}
 use Rattle.tape.proofs.Stored.{part-of, partOf, Stored, length-part, visit-stored}
 
 -- ---- the mapping

@@ -11,12 +11,12 @@ use borrow.Author.Tests.{eq-eqb}
 use lib.Dec.{eqb}
 use lib.ListN.{length, take, drop}
 use lib.Seq.{take-all}
-use Rattle.crc16.specs.Crc.{crc16, ticketOf}
 use Rattle.lists.specs.Words.{splice}
 use Rattle.lists.proofs.Orders.{split}
 use Rattle.lists.proofs.Splice.{splice-nil}
 use Rattle.lists.proofs.Tests.{and-both}
 use Rattle.lists.proofs.Windows.{length-window, getD-window, window-ext}
+use Rattle.crc16.specs.Crc.{crc16, ticketOf}
 use Rattle.chip.specs.declared.Answer.the-variants.{Accepted}
 use Rattle.chip.specs.declared.Block.{Block}
 use Rattle.chip.specs.declared.Chip.{Chip}
@@ -30,12 +30,13 @@ use Rattle.chip.specs.Fits.{eachOnce, reservedFree, fitsOwn, fits, Apart}
 use Rattle.chip.specs.Fits.Laws.{own-known, fits-is}
 use Rattle.chip.proofs.Layouts.{sound, from-is}
 use Rattle.chip.proofs.Onto.{apart-once}
-use Rattle.wear_leveling.specs.Tickets.{sectorPlace, ticketIn}
-use Rattle.wear_leveling.specs.Save.{saveBytes, admission}
-use Rattle.wear_leveling.specs.Write.{State, state, firstSector, endSector, visitCount, visits, written, CanWrite}
-use Rattle.wear_leveling.proofs.ByBlocks.{length-save}
-use Rattle.wear_leveling.proofs.Fitting.{fits-len, fits-apart, fits-reserved, fits-save, fits-lies}
-use Rattle.wear_leveling.proofs.Visits.{Kept, visits-kept}
+use Rattle.tickets.specs.Tickets.{sectorPlace, ticketIn}
+use Rattle.tickets.proofs.Fitting.{fits-len, fits-apart, fits-reserved, fits-save, fits-lies}
+use Rattle.save.specs.Save.{saveBytes}
+use Rattle.save.specs.Visits.{State, state, firstSector, endSector, visitCount, visits, written, CanWrite}
+use Rattle.save.proofs.ByBlocks.{length-save}
+use Rattle.save.proofs.Visits.{Kept, visits-kept}
+use Rattle.wear_leveling.specs.Read.{admission}
 use Rattle.tape.proofs.Stored.{done, done-none, done-all, grown}
 use Rattle.tape.proofs.Visited.{Good, visit-changed, visit-numbered, visit-save, Since, since-more}
 use Rattle.tape.proofs.Granted.{accepted-can}

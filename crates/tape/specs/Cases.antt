@@ -22,9 +22,10 @@ use Rattle.block_map.specs.Put.{fresh, formatted, putMap}
 use Rattle.journal.specs.Entries.{twins}
 use Rattle.journal.specs.Opened.{Opened}
 use Rattle.journal.specs.Steps.{steps1to6}
+use Rattle.save.specs.Visits.{state}
 use Rattle.wear_leveling.specs.Open.{openOf}
-use Rattle.wear_leveling.specs.Save.{admission}
-use Rattle.wear_leveling.specs.Write.{state, afterWrite}
+use Rattle.wear_leveling.specs.Read.{admission}
+use Rattle.wear_leveling.specs.Write.{afterWrite}
 use Rattle.wear_leveling.specs.Commit.{commitAnswer}
 
 -- the bytes of an entry, twice, and the rest of its slot

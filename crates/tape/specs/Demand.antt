@@ -16,9 +16,10 @@ use Rattle.chip.specs.Blocks.{blockAt}
 use Rattle.chip.specs.Fits.{fits}
 use Rattle.chip.specs.Answers.{highCountOn}
 use Rattle.chip.specs.Outcomes.{outcome}
+use Rattle.save.specs.Save.{saveBytes}
+use Rattle.save.specs.Visits.{State}
 use Rattle.wear_leveling.specs.Open.{openOf}
-use Rattle.wear_leveling.specs.Save.{admission, saveBytes, readInto}
-use Rattle.wear_leveling.specs.Write.{State}
+use Rattle.wear_leveling.specs.Read.{admission, readInto}
 use Rattle.wear_leveling.specs.Commit.{commitAnswer, unlessHigh, afterCommit}
 
 -- no block of the first V is changed

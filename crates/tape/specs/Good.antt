@@ -13,10 +13,10 @@ use Rattle.chip.specs.Figures.{layoutOf, virtuals, sectors, fromLen}
 use Rattle.chip.specs.Blocks.{records, noBlock, blockAt, numberAt, freeAt}
 use Rattle.chip.specs.Fits.{fits}
 use Rattle.chip.specs.Outcomes.{outcome}
-use Rattle.wear_leveling.specs.Tickets.{ticketIn}
+use Rattle.tickets.specs.Tickets.{ticketIn}
+use Rattle.save.specs.Save.{saveBytes}
+use Rattle.save.specs.Visits.{State}
 use Rattle.wear_leveling.specs.Open.{openOf}
-use Rattle.wear_leveling.specs.Save.{saveBytes}
-use Rattle.wear_leveling.specs.Write.{State}
 use Rattle.tape.specs.Demand.{Quiet}
 
 pub record Good (k : Chip) (st : State) (t : List ℕ) : Type 0 where

@@ -6,8 +6,9 @@ use Prim.Native.Nat.{ℕ}
 use lib.ListN.{length}
 use Rattle.lists.specs.Words.{splice}
 use Rattle.chip.specs.declared.Answer.{Answer}
-use Rattle.wear_leveling.specs.Save.{admission, ifAccepted}
-use Rattle.wear_leveling.specs.Write.{State, afterWrite}
+use Rattle.save.specs.Visits.{State}
+use Rattle.wear_leveling.specs.Read.{admission, ifAccepted}
+use Rattle.wear_leveling.specs.Write.{afterWrite}
 use Rattle.wear_leveling.specs.Commit.{commitAnswer, afterCommit}
 
 -- a call: a read of as many bytes as a buffer has, from a place on; a write of some bytes; a commit

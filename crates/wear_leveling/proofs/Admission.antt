@@ -16,11 +16,11 @@ use Rattle.chip.specs.Blocks.{lenOf, blank}
 use Rattle.chip.specs.Fits.{fits}
 use Rattle.chip.specs.Fits.Laws.{blank-unfit}
 use Rattle.chip.proofs.Layouts.{sound}
-use Rattle.wear_leveling.specs.Save.{admission}
-use Rattle.wear_leveling.specs.Readable.{Readable}
-use Rattle.wear_leveling.specs.Write.{CanWrite}
+use Rattle.tickets.proofs.Fitting.{Fitting, fitting, fits-lies}
+use Rattle.save.specs.Readable.{Readable}
+use Rattle.save.specs.Visits.{CanWrite}
+use Rattle.wear_leveling.specs.Read.{admission}
 use Rattle.wear_leveling.specs.Commit.{commitAnswer}
-use Rattle.wear_leveling.proofs.Fitting.{Fitting, fitting, fits-lies}
 
 module _ (n : ℕ) (m : Mapping) (place k : ℕ) where
   pub not-fitting : fits n m ≡ false → admission n m place k ≡ DoesNotFit

@@ -24,9 +24,10 @@ use Rattle.chip.specs.Fits.{Apart, fits}
 use Rattle.chip.proofs.Layouts.{sound}
 use Rattle.block_map.specs.Put.{putMap}
 use Rattle.block_map.proofs.RoundTrip.{put-length, put-behind}
-use Rattle.wear_leveling.specs.Save.{byteAt, saveBytes}
-use Rattle.wear_leveling.specs.Commit.{isChanged, cleanCondition, cleaned, settledRecord, newTicket, committed, commitAnswer, committedOn, afterCommit}
-use Rattle.wear_leveling.proofs.Fitting.{known-long, fits-len, fits-apart, fits-reserved, fits-save, fits-by}
+use Rattle.tickets.proofs.Fitting.{known-long, fits-len, fits-apart, fits-reserved, fits-save, fits-by}
+use Rattle.committing.specs.Committed.{isChanged, cleanCondition, cleaned, settledRecord, newTicket, committed}
+use Rattle.save.specs.Save.{byteAt, saveBytes}
+use Rattle.wear_leveling.specs.Commit.{commitAnswer, committedOn, afterCommit}
 
 -- ---- a condition that was cleaned
 

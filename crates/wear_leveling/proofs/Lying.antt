@@ -15,8 +15,8 @@ use Rattle.chip.proofs.Numbers.{zero-accepted}
 use Rattle.journal.specs.Steps.{steps1to6}
 use Rattle.journal.specs.Opened.{OpenedAs}
 use Rattle.journal.proofs.Accepted.{accepted-as}
-use Rattle.wear_leveling.specs.Tickets.{Lies, LiesIn}
-use Rattle.wear_leveling.proofs.Fitting.{apart-lies}
+use Rattle.tickets.specs.Tickets.{Lies, LiesIn}
+use Rattle.tickets.proofs.Fitting.{apart-lies}
 
 -- the outcome of steps 1 to 6 on an image's block zero, where its number is 0
 pub accepted-lies

@@ -1,56 +1,21 @@
--- Committing (01, "Working on an open image"): new tickets for changed blocks, block zero from the mapping, and no block
--- changed any more. Assumes nothing.
-use mathlib.Core.Bool.{Bool, true, false, not, _&&_}
+-- Committing (01, "Working on an open image" and "Numbers handed back"): what it answers, and image and mapping afterwards.
+-- The mapping that it makes is in committing/Committed. Assumes nothing.
 use mathlib.Core.List.{List}
-use Prim.Native.Nat.{ℕ, _*_, _/_, _%_}
-use lib.Dec.{ltb}
-use lib.ListN.{length, getD}
-use Rattle.lists.specs.Words.{pick, tabulate}
+use Prim.Native.Nat.{ℕ}
+use lib.ListN.{length}
+use Rattle.lists.specs.Words.{pick}
 use Rattle.chip.specs.declared.Answer.{Answer}
 use Rattle.chip.specs.declared.Answer.the-variants.{Accepted, DoesNotFit, CountTooHigh}
-use Rattle.chip.specs.declared.Block.{Block}
-use Rattle.chip.specs.declared.Condition.{Condition}
-use Rattle.chip.specs.declared.Condition.the-variants.{Free, Clean, Changed}
 use Rattle.chip.specs.declared.Found.{Found}
 use Rattle.chip.specs.declared.Found.the-variants.{At, Nothing}
 use Rattle.chip.specs.declared.Mapping.{Mapping}
-use Rattle.chip.specs.Figures.{Layout, layoutOf, virtuals, sectors, fromLen, byChip}
-use Rattle.chip.specs.Blocks.{blockOf, mappingOf, records, blockAt, numberAt}
+use Rattle.chip.specs.Figures.{Layout, layoutOf, fromLen, byChip}
 use Rattle.chip.specs.Fits.{fits}
 use Rattle.chip.specs.Answers.{highCount}
 use Rattle.block_map.specs.Put.{putMap}
-use Rattle.wear_leveling.specs.Tickets.{ticketIn}
-use Rattle.wear_leveling.specs.Save.{ifAccepted}
-use Rattle.wear_leveling.specs.Write.{State}
-
-abbrev pub isChanged : Condition → Bool
-isChanged Free = false
-isChanged Clean = false
-isChanged Changed = true
-
--- "no block is changed any more"
-abbrev pub cleanCondition : Condition → Condition
-cleanCondition Free = Free
-cleanCondition Clean = Clean
-cleanCondition Changed = Clean
-
-abbrev pub cleaned : Block → Block
-cleaned b = blockOf (b .physical .0) (b .count) (cleanCondition (b .condition))
-
--- sector s, which is 8 × block + sector, gets a new ticket: "on small chips, new tickets for each changed block"
-unfoldable pub summed : Layout → Mapping → ℕ → Bool
-summed l m s = not (l .large) && (ltb s (virtuals l * sectors) && isChanged (blockAt m (s / sectors) .condition))
-
--- the mapping after a commit; "entries past V are ignored and kept"
-unfoldable pub settledRecord : Layout → Mapping → ℕ → Block
-settledRecord l m v = pick (ltb v (virtuals l)) (cleaned (blockAt m v)) (blockAt m v)
-
-unfoldable pub newTicket : Layout → List ℕ → Mapping → ℕ → ℕ
-newTicket l image m s = pick (summed l m s) (ticketIn image (numberAt m (s / sectors)) (s % sectors)) (getD (m .tickets) s 0)
-
-unfoldable pub committed : Layout → List ℕ → Mapping → Mapping
-committed l image m =
-    mappingOf (m .len) (tabulate (settledRecord l m) records) (tabulate (newTicket l image m) (records * sectors))
+use Rattle.committing.specs.Committed.{committed}
+use Rattle.save.specs.Visits.{State}
+use Rattle.wear_leveling.specs.Read.{ifAccepted}
 
 -- 10 at the block that the search found
 abbrev pub unlessHigh : Found → Answer

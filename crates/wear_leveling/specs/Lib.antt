@@ -1,7 +1,5 @@
-pub mod Tickets
 pub mod Open
-pub mod Save
-pub mod Readable
+pub mod Read
 pub mod Write
 pub mod Commit
 pub mod Format

@@ -1,18 +1,12 @@
 // What others call: format, open, read, write, commit and len, over an image that the caller lends and a mapping that goes in and
 // comes back by value. Each takes anything, and its contract determines answer, mapping, image and buffer, refused or not.
-mod committing;
-mod reading;
-mod slices;
-mod tickets;
-mod writing;
-
 ghost use mathlib.Core.Path.{_≡_};
 ghost use lib.ListN.{length};
+ghost use Rattle.chip.specs.Blocks.{lenOf};
 ghost use Rattle.chip.specs.Outcomes.{outcome};
 ghost use Rattle.wear_leveling.specs.Open.{openOf};
-ghost use Rattle.wear_leveling.specs.Save.{admission, readInto};
+ghost use Rattle.wear_leveling.specs.Read.{admission, readInto};
 ghost use Rattle.wear_leveling.specs.Write.{afterWrite};
-ghost use Rattle.chip.specs.Blocks.{lenOf};
 ghost use Rattle.wear_leveling.specs.Commit.{commitAnswer, afterCommit};
 ghost use Rattle.wear_leveling.specs.Format.{formatAnswer, afterFormat};
 use chip::Answer;
@@ -58,7 +52,7 @@ pub fn read(image: &[u8], m: Mapping, place: usize, buf: &mut [u8]) -> Outcome
             mapping: m,
         };
     }
-    reading::read_save(image, m, place, buf);
+    save::reading::read_save(image, m, place, buf);
     Outcome::accepted(m)
 }
 
@@ -81,7 +75,7 @@ pub fn write(image: &mut [u8], m: Mapping, place: usize, bytes: &[u8]) -> Outcom
             mapping: m,
         };
     }
-    let n = writing::write_save(image, m, place, bytes);
+    let n = save::writing::write_save(image, m, place, bytes);
     Outcome::accepted(n)
 }
 

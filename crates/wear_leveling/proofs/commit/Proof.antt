@@ -2,8 +2,8 @@
 use mathlib.Core.Path.{sym, _∙_}
 use borrow.Author.Tests.{not-true, not-false}
 use borrow.Author.Needs.{needs}
+use Rattle.tickets.proofs.Fitting.{fits-lies}
 use Rattle.wear_leveling.specs.Commit.{commitAnswer, committedOn, afterCommit}
-use Rattle.wear_leveling.proofs.Fitting.{fits-lies}
 use Rattle.wear_leveling.proofs.commit.Statement.{statement}
 use Rattle.wear_leveling.proofs.commit.Tie as tie
 

@@ -1,8 +1,8 @@
 -- `format` meets its contract: by the chip that `from_len` finds, whose image has a block zero. Assumes nothing.
 use mathlib.Core.Path.{sym, _∙_}
 use borrow.Author.Needs.{needs}
+use Rattle.tickets.proofs.Fitting.{known-long}
 use Rattle.wear_leveling.specs.Format.{formatAnswer, afterFormat}
-use Rattle.wear_leveling.proofs.Fitting.{known-long}
 use Rattle.wear_leveling.proofs.format.Statement.{statement}
 use Rattle.wear_leveling.proofs.format.Tie as tie
 

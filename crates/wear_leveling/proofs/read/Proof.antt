@@ -4,7 +4,7 @@ use mathlib.Core.Path.{sym, _∙_}
 use borrow.Author.Tests.{not-true, not-false}
 use borrow.Author.Needs.{needs}
 use lib.ListN.{length}
-use Rattle.wear_leveling.specs.Save.{readInto}
+use Rattle.wear_leveling.specs.Read.{readInto}
 use Rattle.wear_leveling.proofs.Admission.{not-fitting, out-of-range, admitted, readable}
 use Rattle.wear_leveling.proofs.read.Statement.{statement}
 use Rattle.wear_leveling.proofs.read.Tie as tie

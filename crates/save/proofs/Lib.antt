@@ -1,0 +1,2 @@
+pub mod ByBlocks
+pub mod Visits
