@@ -1,2 +1,3 @@
 pub mod ByBlocks
 pub mod Visits
+pub mod Parts

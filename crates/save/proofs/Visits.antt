@@ -3,7 +3,7 @@
 use mathlib.Core.Path.{_≡_, refl, ap, _∙_, subst}
 use mathlib.Core.Bool.{Bool, true, false}
 use mathlib.Core.List.{List, [], _∷_}
-use Prim.Native.Nat.{ℕ, zero, suc, _+_, _-_, _*_, _/_, _%_, _≤_, _<_, min, max}
+use Prim.Native.Nat.{ℕ, zero, suc, _+_, _-_, _*_, _/_, _%_, _≤_, _<_}
 use native.Mathlib.Omega.{arith}
 use lib.ListN.{length, getD, set, length-replicate, replicate-append-replicate}
 use lib.Seq.{slice, take-all, length-slice}
@@ -16,7 +16,15 @@ use Rattle.chip.specs.Blocks.{records, isFree, noBlock, blockAt, numberAt, with
 use Rattle.chip.proofs.Layouts.{sound}
 use Rattle.tickets.specs.Tickets.{sectorPlace}
 use Rattle.tickets.proofs.Fitting.{fitting, fits-lies}
-use Rattle.save.specs.Visits.{State, state, firstSector, endSector, visitCount, visitedBlock, openedImage, storedPart, partFrom, partEnd, visit, visits, written, CanVisit, CanWrite}
+use Rattle.save.specs.Visits.{State, state, firstSector, endSector, visitCount, visitedBlock, openedImage, storedPart, partFrom, partEnd, visit, visits, written, CanWrite}
+
+-- what a visit asks for: its block, of physical number n, lies in the image, sector s is one that a write of k bytes from
+-- place on visits, and the save is at least a sector shorter than the image
+pub record CanVisit (image : List ℕ) (n place k s : ℕ) : Type 0 where
+  pub within : n * blockLen + blockLen ≤ length image
+  pub from : firstSector place ≤ s
+  pub to : s < endSector place k
+  pub short : place + k + sectorLen ≤ length image
 
 -- an accepted write ends at least a sector before the image does, which has 256 blocks at most
 pub record Short (image : List ℕ) (place k : ℕ) : Type 0 where
@@ -57,20 +65,6 @@ filled-sheet image at j k x h =
     (splice-splice 0 image at (rep (j * k) x) (rep k x) (omega arith)
     ∙ ap (splice image at) (replicate-append-replicate (j * k) k x)))
 
--- the bytes that were copied are the part that falls into the sector
-pub part-stored
-    : (image d : List ℕ) (n place s from end at : ℕ)
-    → from ≡ max place (s * sectorLen)
-    → end ≡ min (place + length d) (s * sectorLen + sectorLen)
-    → at ≡ sectorPlace n (s % sectors)
-    → place ≤ from
-    → from ≤ end
-    → splice image (at + (from - s * sectorLen)) (slice (from - place) (from - place + (end - from)) d) ≡ storedPart n place d s image
-unfolding storedPart partFrom partEnd
-part-stored image d n place s from end at f t a h k =
-    let e : from - place + (end - from) ≡ end - place = omega arith in
-    rw (e, f, t, a)
-
 -- ---- what a visit keeps
 
 -- an element that f does not tell from the one in its place
@@ -83,7 +77,7 @@ getD-set-like f (x ∷ xs) zero a z (suc j) e = refl
 getD-set-like f (x ∷ xs) (suc i) a z zero e = refl
 getD-set-like f (x ∷ xs) (suc i) a z (suc j) e = getD-set-like f xs i a z j e
 
-length-opened
+pub length-opened
     : (b : Block) (image : List ℕ)
     → b .physical .0 * blockLen + blockLen ≤ length image → length (openedImage b image) ≡ length image
 unfolding openedImage

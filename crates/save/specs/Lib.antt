@@ -1,3 +1,4 @@
 pub mod Save
 pub mod Readable
 pub mod Visits
+pub mod Parts

@@ -3,7 +3,7 @@
 use mathlib.Core.Path.{_≡_}
 use mathlib.Core.Bool.{true}
 use mathlib.Core.List.{List}
-use Prim.Native.Nat.{ℕ, zero, suc, _+_, _-_, _*_, _/_, _%_, _<_, _≤_, min, max}
+use Prim.Native.Nat.{ℕ, zero, suc, _+_, _-_, _*_, _/_, _%_, _≤_, min, max}
 use lib.Dec.{eqb}
 use lib.ListN.{length}
 use lib.Seq.{slice}
@@ -60,14 +60,6 @@ unfoldable pub storedPart : ℕ → ℕ → List ℕ → ℕ → List ℕ → Li
 storedPart n place d s image =
     splice image (sectorPlace n (s % sectors) + (partFrom place s - s * sectorLen))
     (slice (partFrom place s - place) (partEnd place (length d) s - place) d)
-
--- what a visit asks for: its block, of physical number n, lies in the image, sector s is one that a write of k bytes from
--- place on visits, and the save is at least a sector shorter than the image
-pub record CanVisit (image : List ℕ) (n place k s : ℕ) : Type 0 where
-  pub within : n * blockLen + blockLen ≤ length image
-  pub from : firstSector place ≤ s
-  pub to : s < endSector place k
-  pub short : place + k + sectorLen ≤ length image
 
 -- one visit: sector s of the save
 unfoldable pub visit : ℕ → List ℕ → ℕ → State → State

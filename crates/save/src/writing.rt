@@ -1,10 +1,11 @@
-// Writing into a save: sector by sector, at once, in the image.
+// Writing into a save, at once, in the image: the sectors of a block together, block by block.
 ghost use mathlib.Core.Path.{_≡_};
 ghost use Prim.Native.Nat.{_+_, _*_, _≤_};
 ghost use lib.ListN.{length};
 ghost use Rattle.lists.specs.Words.{splice, rep};
 ghost use Rattle.chip.specs.Figures.{blockLen, erased};
-ghost use Rattle.save.specs.Visits.{state, firstCount, visitedBlock, openedImage, storedPart, written, CanVisit, CanWrite};
+ghost use Rattle.save.specs.Visits.{state, firstCount, visitedBlock, openedImage, written, CanWrite};
+ghost use Rattle.save.specs.Parts.{storedParts, CanStore};
 use crate::slices::copy;
 use crate::slices::larger;
 use crate::slices::smaller;
@@ -61,31 +62,45 @@ fn visit_block(image: &mut [u8], b: Block) -> Block
     }
 }
 
-// Stores the part of the bytes that falls into sector s of the save, which lies in this physical block.
-fn store_part(image: &mut [u8], number: Physical, place: usize, bytes: &[u8], s: usize)
-    requires { ⌜ CanVisit (now image) (number .0) place (length (now bytes)) s ⌝ }
-    ensures { λ _. ⌜ now (image .exit) ≡ storedPart (number .0) place (now (bytes .entry)) s (now (image .entry)) ⌝ }
+// Stores the parts of the bytes that fall into sectors s up to `stop` of the save, which lie in this physical block.
+fn store_parts(
+    image: &mut [u8],
+    number: Physical,
+    place: usize,
+    bytes: &[u8],
+    s: usize,
+    stop: usize,
+)
+    requires { ⌜ CanStore (now image) (number .0) place (length (now bytes)) s stop ⌝ }
+    ensures { λ _. ⌜ now (image .exit) ≡ storedParts (number .0) place (now (bytes .entry)) s stop (now (image .entry)) ⌝ }
 {
     let start = s * Chip::SECTOR;
     let from = larger(place, start);
-    let end = smaller(place + bytes.len(), start + Chip::SECTOR);
+    let end = smaller(place + bytes.len(), stop * Chip::SECTOR);
     let at = tickets::sector_place(number, s % Chip::SECTORS) + (from - start);
     copy(image, at, bytes, from - place, end - from);
 }
 
-// Visits sector s of the save, which lies in block b: hands the block back as it is then.
-fn visit_sector(image: &mut [u8], b: Block, place: usize, bytes: &[u8], s: usize) -> Block
-    requires { ⌜ CanVisit (now image) (b .physical .0) place (length (now bytes)) s ⌝ }
+// Visits sectors s up to `stop` of the save, which lie in block b: hands the block back as it is then.
+fn visit_sectors(
+    image: &mut [u8],
+    b: Block,
+    place: usize,
+    bytes: &[u8],
+    s: usize,
+    stop: usize,
+) -> Block
+    requires { ⌜ CanStore (now image) (b .physical .0) place (length (now bytes)) s stop ⌝ }
     ensures { λ r. ⌜ r ≡ visitedBlock b ⌝ }
-    ensures { λ r. ⌜ now (image .exit) ≡ storedPart (b .physical .0) place (now (bytes .entry)) s (openedImage b (now (image .entry))) ⌝ }
+    ensures { λ r. ⌜ now (image .exit) ≡ storedParts (b .physical .0) place (now (bytes .entry)) s stop (openedImage b (now (image .entry))) ⌝ }
 {
     let number = b.physical;
     let visited = visit_block(image, b);
-    store_part(image, number, place, bytes, s);
+    store_parts(image, number, place, bytes, s, stop);
     visited
 }
 
-// Visits all sectors of a write that was accepted, and hands the mapping back as it is then.
+// Visits all sectors of a write that was accepted, those of a block at once, and hands the mapping back as it is then.
 pub fn write_save(image: &mut [u8], m: Mapping, place: usize, bytes: &[u8]) -> Mapping
     requires { ⌜ CanWrite (now image) m place (length (now bytes)) ⌝ }
     ensures { λ r. ⌜ state (now (image .exit)) r ≡ written place (now (bytes .entry)) (state (now (image .entry)) m) ⌝ }
@@ -95,8 +110,9 @@ pub fn write_save(image: &mut [u8], m: Mapping, place: usize, bytes: &[u8]) -> M
     let end = (place + bytes.len() + (Chip::SECTOR - 1)) / Chip::SECTOR;
     while s < end {
         let v = s / Chip::SECTORS;
-        t.blocks[v] = visit_sector(image, t.blocks[v], place, bytes, s);
-        s += 1;
+        let stop = smaller((v + 1) * Chip::SECTORS, end);
+        t.blocks[v] = visit_sectors(image, t.blocks[v], place, bytes, s, stop);
+        s = stop;
     }
     t
 }

@@ -1,13 +1,14 @@
--- `write_save` meets its contract. The invariant: image and mapping are those after the visits up to sector s. That such visits
--- keep the image's length and all physical numbers lets the next one be made. Assumes nothing.
+-- `write_save` meets its contract. The invariant: image and mapping are those after the visits up to sector s, and a turn makes
+-- those of one block. That visits keep the image's length and all physical numbers lets the next turn be made. Assumes nothing.
 use mathlib.Core.Path.{_≡_, refl, _∙_}
 use Prim.Native.Nat.{_-_}
 use native.Mathlib.Omega.{arith}
 use borrow.Author.Needs.{needs}
 use lib.ListN.{length}
 use Rattle.chip.specs.Blocks.{withBlock}
+use Rattle.save.proofs.Parts.{going-store, going-number, going-parts}
 use Rattle.save.specs.Visits.{state}
-use Rattle.save.proofs.Visits.{can-short, Going, going-none, going-can, going-more, going-all}
+use Rattle.save.proofs.Visits.{can-short, Going, going-none, going-all}
 use Rattle.save.proofs.writing.write_save.Statement.{statement}
 use Rattle.save.proofs.writing.write_save.Tie as tie
 
@@ -39,35 +40,42 @@ loop-holds c =
     let a = c .before .before .args in
     (refl, going-none (a .place) (a .bytes .now) (state (a .image .now) (a .m)))
 
-mul-visit-sector : tie.Need-mul-visit-sector Inv-loop μ-loop
-mul-visit-sector c = search needs
+add-smaller : tie.Need-add-smaller Inv-loop μ-loop
+add-smaller c = search needs
 
-element-copy-out-visit-sector : tie.Need-element-copy-out-visit-sector Inv-loop μ-loop
-element-copy-out-visit-sector c =
-    let start = c .before .before .before .before .before in
+mul-smaller : tie.Need-mul-smaller Inv-loop μ-loop
+mul-smaller c = search needs
+
+smaller-requires : tie.Need-smaller-requires Inv-loop μ-loop
+smaller-requires c κs = search needs
+
+mul-visit-sectors : tie.Need-mul-visit-sectors Inv-loop μ-loop
+mul-visit-sectors c = search needs
+
+element-copy-out-visit-sectors : tie.Need-element-copy-out-visit-sectors Inv-loop μ-loop
+element-copy-out-visit-sectors c =
+    let start = c .before .before .before .before .before .before in
     let a = start .args in
     let h = can-short (a .image .now) (a .m) (a .place) (length (a .bytes .now)) (start .pre) in
     omega arith
 
-visit-sector-requires : tie.Need-visit-sector-requires Inv-loop μ-loop
-visit-sector-requires c κs =
-    let l = c .before .before .before .loop in
-    let start = c .before .before .before .before .before .before in
+visit-sectors-requires : tie.Need-visit-sectors-requires Inv-loop μ-loop
+visit-sectors-requires c κs =
+    let l = c .before .before .before .before .loop in
+    let start = c .before .before .before .before .before .before .before in
     let a = start .args in
-    going-can (a .place) (a .bytes .now) (state (a .image .now) (a .m)) (state (l .image) (l .t)) (l .s) (start .pre) (l .inv .1) (omega arith)
+    going-store (a .place) (a .bytes .now) (state (a .image .now) (a .m)) (state (l .image) (l .t)) (l .s) (start .pre) _ (l .inv .1)
+    (c .before .before .before .loop-test .taken) (c .before .before .smaller .ensures)
 
-mul-t21 : tie.Need-mul-t21 Inv-loop μ-loop
-mul-t21 c = search needs
+mul-t16 : tie.Need-mul-t16 Inv-loop μ-loop
+mul-t16 c = search needs
 
 element-set-from-t : tie.Need-element-set-from-t Inv-loop μ-loop
 element-set-from-t c =
-    let start = c .before .before .before .before .before .before .before .before .before in
+    let start = c .before .before .before .before .before .before .before .before .before .before in
     let a = start .args in
     let h = can-short (a .image .now) (a .m) (a .place) (length (a .bytes .now)) (start .pre) in
     omega arith
-
-add-s : tie.Need-add-s Inv-loop μ-loop
-add-s c = search needs
 
 loop-less : tie.Need-loop-less Inv-loop μ-loop
 loop-less c = search needs
@@ -75,12 +83,19 @@ loop-less c = search needs
 loop-again : tie.Need-loop-again Inv-loop μ-loop
 unfolding withBlock
 loop-again c =
-    let sector = c .before .before .visit-sector in
-    let l = c .before .before .before .before .before .before .loop in
-    let a = c .before .before .before .before .before .before .before .before .before .args in (
-      sector .kept .0 ∙ l .inv .0,
-      going-more (a .place) (a .bytes .now) (state (a .image .now) (a .m)) (l .image) (l .t) (l .s) (sector .last .0) (sector .result)
-          (l .inv .1) (omega arith) (sector .ensures .0) (sector .ensures .1),
+    let visited = c .before .before .visit-sectors in
+    let stop = c .before .before .before .before .before .smaller in
+    let more = c .before .before .before .before .before .before .loop-test .taken in
+    let l = c .before .before .before .before .before .before .before .loop in
+    let start = c .before .before .before .before .before .before .before .before .before .before in
+    let a = start .args in
+    let st = state (a .image .now) (a .m) in
+    let st2 = state (l .image) (l .t) in (
+      visited .kept .0 ∙ l .inv .0,
+      going-parts (a .place) (a .bytes .now) st (l .image) (l .t) (l .s) (stop .result) (visited .last .0) (visited .result) (l .inv .1)
+          (going-number (a .place) (a .bytes .now) st st2 (l .s) (start .pre) (l .inv .1) more)
+          (going-store (a .place) (a .bytes .now) st st2 (l .s) (start .pre) (stop .result) (l .inv .1) more (stop .ensures))
+          (visited .ensures .0) (visited .ensures .1),
     )
 
 same-length : tie.Need-same-length Inv-loop μ-loop
@@ -102,12 +117,14 @@ write-save-spec =
     sub-end
     add-end-2
     loop-holds
-    mul-visit-sector
-    element-copy-out-visit-sector
-    visit-sector-requires
-    mul-t21
+    add-smaller
+    mul-smaller
+    smaller-requires
+    mul-visit-sectors
+    element-copy-out-visit-sectors
+    visit-sectors-requires
+    mul-t16
     element-set-from-t
-    add-s
     loop-less
     loop-again
     same-length

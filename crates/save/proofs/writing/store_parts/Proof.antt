@@ -1,10 +1,10 @@
--- `store_part` meets its contract: what is copied lies between the ends that the definition names. Assumes nothing.
+-- `store_parts` meets its contract: what is copied lies between the ends that the definition names. Assumes nothing.
 use mathlib.Core.Path.{_∙_}
 use native.Mathlib.Omega.{arith}
 use borrow.Author.Needs.{needs}
-use Rattle.save.proofs.Visits.{part-stored}
-use Rattle.save.proofs.writing.store_part.Statement.{statement}
-use Rattle.save.proofs.writing.store_part.Tie as tie
+use Rattle.save.proofs.Parts.{parts-stored}
+use Rattle.save.proofs.writing.store_parts.Statement.{statement}
+use Rattle.save.proofs.writing.store_parts.Tie as tie
 
 mul-start : tie.Need-mul-start
 mul-start c = search needs
@@ -15,8 +15,8 @@ larger-requires c κs = search needs
 add-smaller : tie.Need-add-smaller
 add-smaller c = search needs
 
-add-smaller-2 : tie.Need-add-smaller-2
-add-smaller-2 c = search needs
+mul-smaller : tie.Need-mul-smaller
+mul-smaller c = search needs
 
 smaller-requires : tie.Need-smaller-requires
 smaller-requires c κs = search needs
@@ -49,17 +49,17 @@ returns c =
     let from = c .before .before .before .before .before .before .larger in
     let a = c .before .before .before .before .before .before .before .before .before .args in
     c .before .before .copy .ensures
-    ∙ part-stored (a .image .now) (a .bytes .now) (a .number .0) (a .place) (a .s) (from .result) (end .result) (place .result)
+    ∙ parts-stored (a .image .now) (a .bytes .now) (a .number .0) (a .place) (a .s) (a .stop) (from .result) (end .result) (place .result)
     (from .ensures) (end .ensures) (place .ensures) (omega arith) (omega arith)
 
-pub store-part-spec : {M : Type 1} → statement M
-store-part-spec =
+pub store-parts-spec : {M : Type 1} → statement M
+store-parts-spec =
     tie.close
     (tie.spec
     mul-start
     larger-requires
     add-smaller
-    add-smaller-2
+    mul-smaller
     smaller-requires
     sector-place-requires
     sub-at
