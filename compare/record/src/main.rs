@@ -220,8 +220,8 @@ fn run(rng: &mut Rng, chip: &'static Chip) -> Vec<u8> {
     record.extend((steps as u16).to_le_bytes());
     for step in 0..steps {
         // A commit last, so that the final mapping has new tickets.
-        let kind = if step + 1 == steps { 2 } else { rng.pick(&[0, 1, 1, 1, 2]) };
-        let place = if rng.one_in(2) { rng.below(chip.save) } else { rng.below(chip.save / SECTOR) * SECTOR };
+        let kind = if step + 1 == steps { 2 } else { rng.pick(&[0, 0, 1, 1, 2]) };
+        let place = place(rng, chip, &opened, kind == 0);
         let n = rng.pick(&[0, 1, SECTOR, SECTOR + 1, 3 * BLOCK]).min(chip.save - place);
         let (place, n, first) = if kind == 2 { (0, 0, 0) } else { (place, n, rng.byte()) };
         record.push(kind);
@@ -234,6 +234,20 @@ fn run(rng: &mut Rng, chip: &'static Chip) -> Vec<u8> {
     }
     record.extend(mapping_record(chip.len, &opened));
     record
+}
+
+/// Where a step starts: most reads start in a block that is in use, so that they see more than 0xFF.
+fn place(rng: &mut Rng, chip: &Chip, opened: &Opened, read: bool) -> usize {
+    let blocks = opened.blocks();
+    let used: Vec<usize> = (0..chip.v - 1).filter(|&v| blocks[v].initialized).collect();
+    if read && !used.is_empty() && !rng.one_in(4) {
+        return rng.pick(&used) * BLOCK + rng.below(BLOCK);
+    }
+    if rng.one_in(2) {
+        rng.below(chip.save)
+    } else {
+        rng.below(chip.save / SECTOR) * SECTOR
+    }
 }
 
 /// Does one step on the original, and gives the two sums that tell of it.
