@@ -10,10 +10,9 @@ use lib.Seq.{take-take, getD-append-add}
 use Rattle.lists.specs.Words.{rep}
 use Rattle.lists.proofs.Splice.{length-splice, getD-splice-at, getD-splice-out, take-splice}
 use Rattle.crc16.specs.Crc.{crc16}
-use Rattle.chip.specs.declared.Mapping.{Mapping}
-use Rattle.chip.specs.Figures.{Layout, virtuals, blockLen, sectors, headerLen, erased, itemLen, mapLen, journalAt}
-use Rattle.chip.specs.Blocks.{records}
+use Rattle.chip.specs.Figures.{Layout, virtuals, blockLen, sectors, headerLen, erased, itemLen, mapLen, journalAt, records}
 use Rattle.chip.proofs.Layouts.{Sound, map-fits}
+use Rattle.mapping.specs.declared.Mapping.{Mapping}
 use Rattle.block_map.specs.Items.{itemAt}
 use Rattle.block_map.specs.Put.{itemBytes, items, withItems, lowFirst, withSum, withJournal}
 use Rattle.block_map.proofs.Puts.{items-fit, length-items}

@@ -10,10 +10,10 @@ use lib.ListN.{getD}
 use Rattle.lists.specs.Words.{pick, tabulate}
 use Rattle.lists.proofs.Orders.{split}
 use Rattle.lists.proofs.Tabulate.{getD-tabulate}
-use Rattle.chip.specs.declared.Mapping.{Mapping}
-use Rattle.chip.specs.Figures.{Layout, virtuals, sectors}
-use Rattle.chip.specs.Blocks.{numberAt, records}
-use Rattle.chip.specs.Fits.{inside, appeared, placed}
+use Rattle.chip.specs.Figures.{Layout, virtuals, sectors, records}
+use Rattle.mapping.specs.declared.Mapping.{Mapping}
+use Rattle.mapping.specs.Blocks.{numberAt}
+use Rattle.mapping.specs.Fits.{inside, appeared, placed}
 use Rattle.block_map.specs.Items.{itemTicket, ticketEntry}
 
 pub no-tickets : (l : Layout) (z : List ℕ) (j : ℕ) → l .large ≡ true → ticketEntry l z j ≡ 0

@@ -12,11 +12,11 @@ use lib.Seq.{getD-append-add}
 use Rattle.lists.specs.Words.{pick}
 use Rattle.lists.proofs.Orders.{by-test}
 use Rattle.lists.proofs.Windows.{getD-window}
-use Rattle.chip.specs.declared.Block.{Block}
-use Rattle.chip.specs.declared.Condition.{Condition}
-use Rattle.chip.specs.declared.Condition.the-variants.{Free, Clean}
 use Rattle.chip.specs.Figures.{Layout, sectors, inUseBit}
-use Rattle.chip.specs.Blocks.{isFree, blockOf}
+use Rattle.mapping.specs.declared.Block.{Block}
+use Rattle.mapping.specs.declared.Condition.{Condition}
+use Rattle.mapping.specs.declared.Condition.the-variants.{Free, Clean}
+use Rattle.mapping.specs.Blocks.{isFree, blockOf}
 use Rattle.block_map.specs.Items.{conditionOf, decoded}
 use Rattle.block_map.specs.Put.{headByte, itemPair, itemOf}
 use Rattle.block_map.proofs.Puts.{length-pair, item-small}

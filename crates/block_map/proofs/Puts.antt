@@ -12,11 +12,11 @@ use Rattle.lists.specs.Words.{pick, splice}
 use Rattle.lists.proofs.Orders.{by-test}
 use Rattle.lists.proofs.Splice.{splice-splice}
 use Rattle.lists.proofs.Windows.{length-window}
-use Rattle.chip.specs.declared.Block.{Block}
-use Rattle.chip.specs.declared.Mapping.{Mapping}
-use Rattle.chip.specs.Figures.{Layout, virtuals, blockLen, sectors, headerLen, largeItem, smallItem, itemLen, mapLen}
-use Rattle.chip.specs.Blocks.{records, blockAt}
+use Rattle.chip.specs.Figures.{Layout, virtuals, blockLen, sectors, headerLen, largeItem, smallItem, itemLen, mapLen, records}
 use Rattle.chip.proofs.Layouts.{Sound, map-fits}
+use Rattle.mapping.specs.declared.Block.{Block}
+use Rattle.mapping.specs.declared.Mapping.{Mapping}
+use Rattle.mapping.specs.Blocks.{blockAt}
 use Rattle.block_map.specs.Items.{itemAt}
 use Rattle.block_map.specs.Put.{itemPair, itemOf, itemBytes, items}
 

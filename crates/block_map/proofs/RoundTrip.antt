@@ -14,10 +14,10 @@ use Rattle.lists.proofs.Orders.{by-test}
 use Rattle.lists.proofs.Tabulate.{tabulate-ext, upTo-ext}
 use Rattle.lists.proofs.Windows.{take-ext, drop-ext}
 use Rattle.crc16.specs.Crc.{crc16}
-use Rattle.chip.specs.declared.Mapping.{Mapping}
-use Rattle.chip.specs.Figures.{Layout, virtuals, blockLen, sectors, headerLen, inUseBit, erased, largeItem, smallItem, itemLen, mapLen, journalAt}
-use Rattle.chip.specs.Blocks.{noBlock, records, blockAt, numberAt, countAt, freeAt}
+use Rattle.chip.specs.Figures.{Layout, virtuals, blockLen, sectors, headerLen, inUseBit, erased, largeItem, smallItem, itemLen, mapLen, journalAt, records}
 use Rattle.chip.proofs.Layouts.{Sound, map-fits}
+use Rattle.mapping.specs.declared.Mapping.{Mapping}
+use Rattle.mapping.specs.Blocks.{noBlock, blockAt, numberAt, countAt, freeAt}
 use Rattle.block_map.specs.Items.{itemAt, itemBlock, itemTicket, blockEntry, ticketEntry, loaded, sumHolds}
 use Rattle.block_map.specs.Put.{itemPair, itemBytes, withItems, withSum, putMap, settledBlock, settledTicket, settled}
 use Rattle.block_map.proofs.Puts.{items-fit}

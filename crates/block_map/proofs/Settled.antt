@@ -13,13 +13,13 @@ use Rattle.lists.proofs.Orders.{split, by-test}
 use Rattle.lists.proofs.Tabulate.{length-tabulate, getD-tabulate, tabulate-list}
 use Rattle.lists.proofs.Splice.{length-splice, getD-splice-at, getD-splice-out}
 use Rattle.lists.proofs.Windows.{drop-ext}
-use Rattle.chip.specs.declared.Block.{Block}
-use Rattle.chip.specs.declared.Condition.{Condition}
-use Rattle.chip.specs.declared.Condition.the-variants.{Free, Clean, Changed}
-use Rattle.chip.specs.declared.Mapping.{Mapping}
-use Rattle.chip.specs.Figures.{Layout, virtuals, blockLen, sectors, imageLen, headerLen, smallItem, mapLen}
-use Rattle.chip.specs.Blocks.{isFree, blockOf, noBlock, records, blockAt, numberAt, countAt}
+use Rattle.chip.specs.Figures.{Layout, virtuals, blockLen, sectors, imageLen, headerLen, smallItem, mapLen, records}
 use Rattle.chip.proofs.Layouts.{Sound, map-fits}
+use Rattle.mapping.specs.declared.Block.{Block}
+use Rattle.mapping.specs.declared.Condition.{Condition}
+use Rattle.mapping.specs.declared.Condition.the-variants.{Free, Clean, Changed}
+use Rattle.mapping.specs.declared.Mapping.{Mapping}
+use Rattle.mapping.specs.Blocks.{isFree, blockOf, noBlock, blockAt, numberAt, countAt}
 use Rattle.block_map.specs.Items.{loaded, sumHolds}
 use Rattle.block_map.specs.Put.{settledBlock, keepsTickets, settledTicket, settled, freshEntry, fresh, formatted}
 use Rattle.block_map.proofs.Puts.{items-fit}

@@ -7,15 +7,15 @@ use lib.Dec.{eqb, leb}
 use lib.ListN.{getD, take}
 use Rattle.lists.specs.Words.{pick, upTo, tabulate}
 use Rattle.crc16.specs.Crc.{crc16}
-use Rattle.chip.specs.declared.Block.{Block}
-use Rattle.chip.specs.declared.Condition.{Condition}
-use Rattle.chip.specs.declared.Condition.the-variants.{Free, Clean}
-use Rattle.chip.specs.declared.Found.{Found}
-use Rattle.chip.specs.declared.Mapping.{Mapping}
-use Rattle.chip.specs.Figures.{Layout, virtuals, sectors, imageLen, headerLen, inUseBit, itemLen, mapLen}
-use Rattle.chip.specs.Blocks.{blockOf, noBlock, records, mappingOf}
-use Rattle.chip.specs.Search.{firstOf}
-use Rattle.chip.specs.Fits.{placed}
+use Rattle.chip.specs.Figures.{Layout, virtuals, sectors, imageLen, headerLen, inUseBit, itemLen, mapLen, records}
+use Rattle.mapping.specs.declared.Block.{Block}
+use Rattle.mapping.specs.declared.Condition.{Condition}
+use Rattle.mapping.specs.declared.Condition.the-variants.{Free, Clean}
+use Rattle.mapping.specs.declared.Found.{Found}
+use Rattle.mapping.specs.declared.Mapping.{Mapping}
+use Rattle.mapping.specs.Blocks.{blockOf, noBlock, mappingOf}
+use Rattle.mapping.specs.Search.{firstOf}
+use Rattle.mapping.specs.Fits.{placed}
 
 -- "8 header bytes, then V items": where item i stands
 abbrev pub itemAt : Layout → ℕ → ℕ

@@ -6,12 +6,12 @@ use Prim.Native.Nat.{ℕ, zero, suc, _+_, _-_, _*_, _/_, _%_}
 use lib.ListN.{getD, take, drop}
 use Rattle.lists.specs.Words.{pick, upTo, tabulate, splice, rep}
 use Rattle.crc16.specs.Crc.{crc16}
-use Rattle.chip.specs.declared.Block.{Block}
-use Rattle.chip.specs.declared.Condition.{Condition}
-use Rattle.chip.specs.declared.Condition.the-variants.{Free, Clean}
-use Rattle.chip.specs.declared.Mapping.{Mapping}
-use Rattle.chip.specs.Figures.{Layout, virtuals, blockLen, sectors, imageLen, headerLen, inUseBit, erased, mapLen, journalAt}
-use Rattle.chip.specs.Blocks.{isFree, blockOf, noBlock, records, mappingOf, blockAt, numberAt, countAt, freeAt}
+use Rattle.chip.specs.Figures.{Layout, virtuals, blockLen, sectors, imageLen, headerLen, inUseBit, erased, mapLen, journalAt, records}
+use Rattle.mapping.specs.declared.Block.{Block}
+use Rattle.mapping.specs.declared.Condition.{Condition}
+use Rattle.mapping.specs.declared.Condition.the-variants.{Free, Clean}
+use Rattle.mapping.specs.declared.Mapping.{Mapping}
+use Rattle.mapping.specs.Blocks.{isFree, blockOf, noBlock, mappingOf, blockAt, numberAt, countAt, freeAt}
 
 -- an item's first byte: seven bits of a number, and the in-use bit
 abbrev pub headByte : Condition → ℕ → ℕ

@@ -4,17 +4,16 @@ ghost use mathlib.Core.Path.{_≡_};
 ghost use Prim.Native.Nat.{_+_, _*_, _<_, _≤_};
 ghost use lib.ListN.{length, take, drop};
 ghost use Rattle.lists.specs.Words.{tabulate, splice, rep};
-ghost use Rattle.chip.specs.Figures.{layoutOf, blockLen, sectors};
-ghost use Rattle.chip.specs.Blocks.{records};
+ghost use Rattle.chip.specs.Figures.{layoutOf, blockLen, sectors, records};
 ghost use Rattle.block_map.specs.Items.{itemAt, conditionOf, decoded, itemTicket, blockEntry, ticketEntry, loaded, sumHolds, badNumber};
 ghost use Rattle.block_map.specs.Put.{headByte, itemPair, itemOf, withItems, withSum, putMap, freshEntry, formatted};
-use chip::Block;
 use chip::Chip;
-use chip::Condition;
-use chip::Found;
-use chip::Mapping;
-use chip::Physical;
-use chip::Virtual;
+use mapping::Block;
+use mapping::Condition;
+use mapping::Found;
+use mapping::Mapping;
+use mapping::Physical;
+use mapping::Virtual;
 
 // Where the item of block v stands.
 fn item_at(kind: Chip, v: Virtual) -> usize

@@ -1,4 +1,1 @@
 pub mod Layouts
-pub mod Searches
-pub mod Onto
-pub mod Numbers

@@ -31,6 +31,10 @@ sectorLen = 0x200
 abbrev pub sectors : ℕ
 sectors = blockLen / sectorLen
 
+-- as many block records as a byte can name
+abbrev pub records : ℕ
+records = 256
+
 -- "V = P − 1 virtual blocks"
 abbrev pub virtuals : Layout → ℕ
 virtuals l = l .p - 1

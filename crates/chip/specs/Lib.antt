@@ -1,6 +1,1 @@
 pub mod Figures
-pub mod Blocks
-pub mod Search
-pub mod Fits
-pub mod Answers
-pub mod Outcomes

@@ -8,9 +8,9 @@ use lib.Dec.{ltb}
 use lib.ListN.{getD}
 use Rattle.lists.specs.Words.{pick, tabulate}
 use Rattle.lists.proofs.Tabulate.{front, tabulate-ext}
-use Rattle.chip.specs.declared.Mapping.{Mapping}
-use Rattle.chip.specs.Figures.{Layout, virtuals, sectors}
-use Rattle.chip.specs.Blocks.{records, blockAt, numberAt}
+use Rattle.chip.specs.Figures.{Layout, virtuals, sectors, records}
+use Rattle.mapping.specs.declared.Mapping.{Mapping}
+use Rattle.mapping.specs.Blocks.{blockAt, numberAt}
 use Rattle.tickets.specs.Tickets.{ticketIn}
 use Rattle.committing.specs.Committed.{isChanged, cleaned, summed, settledRecord, newTicket}
 

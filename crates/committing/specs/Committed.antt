@@ -6,12 +6,12 @@ use Prim.Native.Nat.{ℕ, _*_, _/_, _%_}
 use lib.Dec.{ltb}
 use lib.ListN.{getD}
 use Rattle.lists.specs.Words.{pick, tabulate}
-use Rattle.chip.specs.declared.Block.{Block}
-use Rattle.chip.specs.declared.Condition.{Condition}
-use Rattle.chip.specs.declared.Condition.the-variants.{Free, Clean, Changed}
-use Rattle.chip.specs.declared.Mapping.{Mapping}
-use Rattle.chip.specs.Figures.{Layout, virtuals, sectors}
-use Rattle.chip.specs.Blocks.{blockOf, mappingOf, records, blockAt, numberAt}
+use Rattle.chip.specs.Figures.{Layout, virtuals, sectors, records}
+use Rattle.mapping.specs.declared.Block.{Block}
+use Rattle.mapping.specs.declared.Condition.{Condition}
+use Rattle.mapping.specs.declared.Condition.the-variants.{Free, Clean, Changed}
+use Rattle.mapping.specs.declared.Mapping.{Mapping}
+use Rattle.mapping.specs.Blocks.{blockOf, mappingOf, blockAt, numberAt}
 use Rattle.tickets.specs.Tickets.{ticketIn}
 
 abbrev pub isChanged : Condition → Bool

@@ -3,15 +3,14 @@ ghost use mathlib.Core.Path.{_≡_};
 ghost use Prim.Native.Nat.{_+_, _*_, _<_, _≤_};
 ghost use lib.ListN.{length};
 ghost use Rattle.lists.specs.Words.{pick, tabulate};
-ghost use Rattle.chip.specs.Figures.{layoutOf, blockLen, sectors};
-ghost use Rattle.chip.specs.Blocks.{records};
+ghost use Rattle.chip.specs.Figures.{layoutOf, blockLen, sectors, records};
 ghost use Rattle.block_map.specs.Put.{putMap};
 ghost use Rattle.tickets.specs.Tickets.{ticketIn, Lies};
 ghost use Rattle.committing.specs.Committed.{isChanged, cleanCondition, cleaned, newTicket, settledRecord, committed};
-use chip::Block;
 use chip::Chip;
-use chip::Condition;
-use chip::Mapping;
+use mapping::Block;
+use mapping::Condition;
+use mapping::Mapping;
 
 // Whether a block was written since the last commit.
 fn is_changed(condition: Condition) -> bool

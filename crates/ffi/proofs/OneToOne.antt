@@ -9,12 +9,13 @@ use borrow.Author.Tests.{leb-true, le-leb}
 use lib.Dec.{leb}
 use lib.ListN.{length, getD, List·getD-map}
 use Rattle.lists.proofs.Tests.{all-at, all-by}
-use Rattle.chip.specs.declared.Answer.the-variants.{DoesNotFit}
-use Rattle.chip.specs.declared.Block.{Block}
-use Rattle.chip.specs.declared.Condition.{Condition}
-use Rattle.chip.specs.declared.Condition.the-variants.{Free, Clean, Changed}
-use Rattle.chip.specs.declared.Mapping.{Mapping}
-use Rattle.chip.specs.Blocks.{records, noBlock, lenOf, blank}
+use Rattle.chip.specs.Figures.{records}
+use Rattle.mapping.specs.declared.Answer.the-variants.{DoesNotFit}
+use Rattle.mapping.specs.declared.Block.{Block}
+use Rattle.mapping.specs.declared.Condition.{Condition}
+use Rattle.mapping.specs.declared.Condition.the-variants.{Free, Clean, Changed}
+use Rattle.mapping.specs.declared.Mapping.{Mapping}
+use Rattle.mapping.specs.Blocks.{noBlock, lenOf, blank}
 use Rattle.wear_leveling.specs.Read.{admission}
 use Rattle.wear_leveling.specs.Commit.{commitAnswer}
 use Rattle.wear_leveling.proofs.Admission.{blank-admission, blank-commit}

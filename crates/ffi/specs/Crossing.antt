@@ -6,15 +6,15 @@ use Prim.Native.Nat.{ℕ}
 use lib.Dec.{eqb, leb}
 use lib.ListN.{getD}
 use Rattle.lists.specs.Words.{pick, all}
-use Rattle.chip.specs.declared.Answer.{Answer}
-use Rattle.chip.specs.declared.Block.{Block}
-use Rattle.chip.specs.declared.Condition.{Condition}
-use Rattle.chip.specs.declared.Condition.the-variants.{Free, Clean, Changed}
-use Rattle.chip.specs.declared.Mapping.{Mapping}
-use Rattle.chip.specs.declared.Outcome.{Outcome}
-use Rattle.chip.specs.Figures.{layoutOf, saveLen, fromLen, byChip}
-use Rattle.chip.specs.Blocks.{blockOf, mappingOf, records, blank}
-use Rattle.chip.specs.Answers.{numberOf, answerPlace}
+use Rattle.chip.specs.Figures.{layoutOf, saveLen, fromLen, byChip, records}
+use Rattle.mapping.specs.declared.Answer.{Answer}
+use Rattle.mapping.specs.declared.Block.{Block}
+use Rattle.mapping.specs.declared.Condition.{Condition}
+use Rattle.mapping.specs.declared.Condition.the-variants.{Free, Clean, Changed}
+use Rattle.mapping.specs.declared.Mapping.{Mapping}
+use Rattle.mapping.specs.declared.Outcome.{Outcome}
+use Rattle.mapping.specs.Blocks.{blockOf, mappingOf, blank}
+use Rattle.mapping.specs.Answers.{numberOf, answerPlace}
 use Rattle.wear_leveling.specs.Read.{ifAccepted}
 use Rattle.ffi.specs.declared.CBlock.{CBlock}
 use Rattle.ffi.specs.declared.CMapping.{CMapping}

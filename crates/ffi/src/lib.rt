@@ -4,21 +4,21 @@ ghost use mathlib.Core.Path.{_≡_};
 ghost use mathlib.Core.List.{map};
 ghost use lib.ListN.{length};
 ghost use Rattle.crc16.specs.Crc.{crc16};
-ghost use Rattle.chip.specs.Outcomes.{outcome};
+ghost use Rattle.mapping.specs.Outcomes.{outcome};
 ghost use Rattle.wear_leveling.specs.Open.{openOf};
 ghost use Rattle.wear_leveling.specs.Read.{admission, readInto};
 ghost use Rattle.wear_leveling.specs.Write.{afterWrite};
 ghost use Rattle.wear_leveling.specs.Commit.{commitAnswer, afterCommit};
 ghost use Rattle.wear_leveling.specs.Format.{formatAnswer, afterFormat};
 ghost use Rattle.ffi.specs.Crossing.{conditionNo, conditionOf, blockC, blockFromC, known, toC, fromC, answerC, answered, outcomeC, lenC};
-use chip::Answer;
-use chip::Block;
 use chip::Chip;
 use chip::ChipOf;
-use chip::Condition;
-use chip::Mapping;
-use chip::Outcome;
-use chip::Physical;
+use mapping::Answer;
+use mapping::Block;
+use mapping::Condition;
+use mapping::Mapping;
+use mapping::Outcome;
+use mapping::Physical;
 
 // A block's record: lw_block.
 #[repr(C)]

@@ -12,20 +12,20 @@ use lib.ListN.{length}
 use Rattle.lists.specs.Words.{pick}
 use Rattle.lists.proofs.Tests.{and-both}
 use Rattle.lists.proofs.Windows.{length-window}
-use Rattle.chip.specs.declared.Answer.{Answer}
-use Rattle.chip.specs.declared.Answer.the-variants.{Accepted, WrongLength, WrongMapSum, BadNumber, CopiesDiffer, BadEntry, ReservedInUse, WrongTicket, DoesNotFit, OutOfRange, CountTooHigh}
 use Rattle.chip.specs.declared.ChipOf.{ChipOf}
 use Rattle.chip.specs.declared.ChipOf.the-variants.{Known, Unknown}
-use Rattle.chip.specs.declared.Found.{Found}
-use Rattle.chip.specs.declared.Found.the-variants.{At, Nothing}
-use Rattle.chip.specs.declared.Mapping.{Mapping}
-use Rattle.chip.specs.declared.Outcome.{Outcome}
 use Rattle.chip.specs.Figures.{Layout, layoutOf, reserved, sectors, blockLen, slotLen, slotCount, journalAt, fromLen, byChip}
-use Rattle.chip.specs.Fits.{eachOnce, reservedFree, fitsAs}
-use Rattle.chip.specs.Answers.{numberOf}
-use Rattle.chip.specs.Outcomes.{outcome, refused, andThen, unlessFound}
 use Rattle.chip.proofs.Layouts.{Sound, sound, map-fits}
-use Rattle.chip.proofs.Onto.{apart-once}
+use Rattle.mapping.specs.declared.Answer.{Answer}
+use Rattle.mapping.specs.declared.Answer.the-variants.{Accepted, WrongLength, WrongMapSum, BadNumber, CopiesDiffer, BadEntry, ReservedInUse, WrongTicket, DoesNotFit, OutOfRange, CountTooHigh}
+use Rattle.mapping.specs.declared.Found.{Found}
+use Rattle.mapping.specs.declared.Found.the-variants.{At, Nothing}
+use Rattle.mapping.specs.declared.Mapping.{Mapping}
+use Rattle.mapping.specs.declared.Outcome.{Outcome}
+use Rattle.mapping.specs.Fits.{eachOnce, reservedFree, fitsAs}
+use Rattle.mapping.specs.Answers.{numberOf}
+use Rattle.mapping.specs.Outcomes.{outcome, refused, andThen, unlessFound}
+use Rattle.mapping.proofs.Onto.{apart-once}
 use Rattle.block_map.specs.Items.{loaded, sumHolds, badNumber}
 use Rattle.journal.specs.declared.Entry.{Entry}
 use Rattle.journal.specs.Entries.{slotAt, twins, ends, entryOf, entryOk, applied}

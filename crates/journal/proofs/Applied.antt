@@ -13,13 +13,13 @@ use lib.ListN.{length, getD, List·getD-eq-default}
 use Rattle.lists.specs.Words.{pick}
 use Rattle.lists.proofs.Orders.{split, by-test, not-both}
 use Rattle.lists.proofs.Tests.{and-left, and-right}
-use Rattle.chip.specs.declared.Block.{Block}
-use Rattle.chip.specs.declared.Condition.{Condition}
-use Rattle.chip.specs.declared.Condition.the-variants.{Free, Clean, Changed}
-use Rattle.chip.specs.declared.Mapping.{Mapping}
-use Rattle.chip.specs.Figures.{Layout, virtuals, sectors}
-use Rattle.chip.specs.Blocks.{isFree, noBlock, records, blockAt, numberAt, freeAt}
-use Rattle.chip.specs.Fits.{inside, Apart}
+use Rattle.chip.specs.Figures.{Layout, virtuals, sectors, records}
+use Rattle.mapping.specs.declared.Block.{Block}
+use Rattle.mapping.specs.declared.Condition.{Condition}
+use Rattle.mapping.specs.declared.Condition.the-variants.{Free, Clean, Changed}
+use Rattle.mapping.specs.declared.Mapping.{Mapping}
+use Rattle.mapping.specs.Blocks.{isFree, noBlock, blockAt, numberAt, freeAt}
+use Rattle.mapping.specs.Fits.{inside, Apart}
 use Rattle.journal.specs.declared.Entry.{Entry}
 use Rattle.journal.specs.Entries.{countBefore, allowed, entryOk, applied}
 use Rattle.journal.specs.Moved.{Other, Moved}

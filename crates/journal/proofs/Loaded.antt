@@ -13,16 +13,16 @@ use Rattle.lists.specs.Words.{pick}
 use Rattle.lists.proofs.Orders.{split, by-test, not-both}
 use Rattle.lists.proofs.Tests.{all-by}
 use Rattle.lists.proofs.Tabulate.{length-tabulate, getD-tabulate}
-use Rattle.chip.specs.declared.Block.{Block}
-use Rattle.chip.specs.declared.Condition.the-variants.{Free, Clean, Changed}
-use Rattle.chip.specs.declared.Found.the-variants.{Nothing}
-use Rattle.chip.specs.declared.Mapping.{Mapping}
-use Rattle.chip.specs.Figures.{Layout, virtuals, sectors, inUseBit}
-use Rattle.chip.specs.Blocks.{isFree, noBlock, records, blockAt}
-use Rattle.chip.specs.Fits.{placed, eachOnce}
-use Rattle.chip.proofs.Searches.{first-none}
+use Rattle.chip.specs.Figures.{Layout, virtuals, sectors, inUseBit, records}
 use Rattle.chip.proofs.Layouts.{Sound}
-use Rattle.chip.proofs.Onto.{once-apart}
+use Rattle.mapping.specs.declared.Block.{Block}
+use Rattle.mapping.specs.declared.Condition.the-variants.{Free, Clean, Changed}
+use Rattle.mapping.specs.declared.Found.the-variants.{Nothing}
+use Rattle.mapping.specs.declared.Mapping.{Mapping}
+use Rattle.mapping.specs.Blocks.{isFree, noBlock, blockAt}
+use Rattle.mapping.specs.Fits.{placed, eachOnce}
+use Rattle.mapping.proofs.Searches.{first-none}
+use Rattle.mapping.proofs.Onto.{once-apart}
 use Rattle.block_map.specs.Items.{itemAt, conditionOf, decoded, itemBlock, itemTicket, blockEntry, ticketEntry, loaded, badNumber}
 use Rattle.block_map.proofs.Maps.{no-tickets}
 use Rattle.journal.specs.Opened.{Opened}

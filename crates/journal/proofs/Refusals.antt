@@ -6,19 +6,19 @@ use mathlib.Core.List.{List, [], _∷_}
 use Prim.Native.Nat.{ℕ, _+_}
 use lib.Dec.{eqb}
 use Rattle.lists.specs.Words.{pick}
-use Rattle.chip.specs.declared.Answer.{Answer}
-use Rattle.chip.specs.declared.Answer.the-variants.{Accepted, WrongLength, WrongMapSum, BadNumber, CopiesDiffer, BadEntry, ReservedInUse}
 use Rattle.chip.specs.declared.ChipOf.{ChipOf}
 use Rattle.chip.specs.declared.ChipOf.the-variants.{Known, Unknown}
-use Rattle.chip.specs.declared.Found.{Found}
-use Rattle.chip.specs.declared.Found.the-variants.{At, Nothing}
-use Rattle.chip.specs.declared.Mapping.{Mapping}
-use Rattle.chip.specs.declared.Outcome.{Outcome}
 use Rattle.chip.specs.Figures.{Layout, layoutOf, reserved, slotCount, fromLen, byChip}
-use Rattle.chip.specs.Blocks.{blank}
-use Rattle.chip.specs.Fits.{reservedFree}
-use Rattle.chip.specs.Answers.{numberOf}
-use Rattle.chip.specs.Outcomes.{outcome, refused, andThen, unlessFound}
+use Rattle.mapping.specs.declared.Answer.{Answer}
+use Rattle.mapping.specs.declared.Answer.the-variants.{Accepted, WrongLength, WrongMapSum, BadNumber, CopiesDiffer, BadEntry, ReservedInUse}
+use Rattle.mapping.specs.declared.Found.{Found}
+use Rattle.mapping.specs.declared.Found.the-variants.{At, Nothing}
+use Rattle.mapping.specs.declared.Mapping.{Mapping}
+use Rattle.mapping.specs.declared.Outcome.{Outcome}
+use Rattle.mapping.specs.Blocks.{blank}
+use Rattle.mapping.specs.Fits.{reservedFree}
+use Rattle.mapping.specs.Answers.{numberOf}
+use Rattle.mapping.specs.Outcomes.{outcome, refused, andThen, unlessFound}
 use Rattle.block_map.specs.Items.{loaded, sumHolds, badNumber}
 use Rattle.journal.specs.declared.Entry.{Entry}
 use Rattle.journal.specs.Entries.{entryOk, applied}

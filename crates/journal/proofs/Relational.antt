@@ -11,11 +11,11 @@ use lib.Seq.{ext-getD, getD-set-same, getD-set-other}
 use Rattle.lists.specs.Words.{splice, rep}
 use Rattle.lists.proofs.Orders.{by-test, not-both}
 use Rattle.lists.proofs.Splice.{length-splice, getD-splice-in, getD-splice-out}
-use Rattle.chip.specs.declared.Block.{Block}
-use Rattle.chip.specs.declared.Condition.the-variants.{Free, Clean}
-use Rattle.chip.specs.declared.Mapping.{Mapping}
-use Rattle.chip.specs.Figures.{Layout, sectors}
-use Rattle.chip.specs.Blocks.{records, noBlock, blockOf, blockAt, withTickets}
+use Rattle.chip.specs.Figures.{Layout, sectors, records}
+use Rattle.mapping.specs.declared.Block.{Block}
+use Rattle.mapping.specs.declared.Condition.the-variants.{Free, Clean}
+use Rattle.mapping.specs.declared.Mapping.{Mapping}
+use Rattle.mapping.specs.Blocks.{noBlock, blockOf, blockAt, withTickets}
 use Rattle.journal.specs.declared.Entry.{Entry}
 use Rattle.journal.specs.Entries.{applied}
 use Rattle.journal.specs.Moved.{ticketAt, Other, Moved}

@@ -9,13 +9,13 @@ use native.Mathlib.Omega.{arith}
 use borrow.Author.Tests.{eq-eqb, ne-eqb}
 use lib.ListN.{getD, set, take, drop}
 use Rattle.lists.specs.Words.{rep}
-use Rattle.chip.specs.declared.Answer.the-variants.{Accepted, CopiesDiffer, BadEntry}
-use Rattle.chip.specs.declared.Block.{Block}
-use Rattle.chip.specs.declared.Condition.the-variants.{Free, Clean}
-use Rattle.chip.specs.declared.Mapping.{Mapping}
 use Rattle.chip.specs.Figures.{Layout, sectors, erased, slotLen, journalAt}
-use Rattle.chip.specs.Blocks.{blockOf, blockAt, mappingOf, withBlock, withTickets}
-use Rattle.chip.specs.Outcomes.{outcome, refused}
+use Rattle.mapping.specs.declared.Answer.the-variants.{Accepted, CopiesDiffer, BadEntry}
+use Rattle.mapping.specs.declared.Block.{Block}
+use Rattle.mapping.specs.declared.Condition.the-variants.{Free, Clean}
+use Rattle.mapping.specs.declared.Mapping.{Mapping}
+use Rattle.mapping.specs.Blocks.{blockOf, blockAt, mappingOf, withBlock, withTickets}
+use Rattle.mapping.specs.Outcomes.{outcome, refused}
 use Rattle.journal.specs.declared.Entry.{Entry}
 use Rattle.journal.specs.Entries.{slotAt, twins, entryOf, allowed, entryOk, ticketed, freed, kept, applied}
 use Rattle.journal.specs.Replay.{entriesFrom, tornFrom, replay, journalFrom}

@@ -5,12 +5,12 @@ use Prim.Native.Nat.{ℕ, _+_, _-_, _*_}
 use lib.Dec.{eqb, leb, ltb}
 use lib.ListN.{getD, take, drop}
 use Rattle.lists.specs.Words.{pick, all, rep}
-use Rattle.chip.specs.declared.Mapping.{Mapping}
-use Rattle.chip.specs.declared.Block.{Block}
-use Rattle.chip.specs.declared.Condition.the-variants.{Free, Clean}
 use Rattle.chip.specs.Figures.{Layout, virtuals, sectors, erased, journalAt, slotLen}
-use Rattle.chip.specs.Blocks.{isFree, blockOf, blockAt, withBlock, withTickets}
-use Rattle.chip.specs.Fits.{inside}
+use Rattle.mapping.specs.declared.Mapping.{Mapping}
+use Rattle.mapping.specs.declared.Block.{Block}
+use Rattle.mapping.specs.declared.Condition.the-variants.{Free, Clean}
+use Rattle.mapping.specs.Blocks.{isFree, blockOf, blockAt, withBlock, withTickets}
+use Rattle.mapping.specs.Fits.{inside}
 use Rattle.journal.specs.declared.Entry.{Entry}
 
 -- "v, w, p, q, c, d and 8 tickets"

@@ -4,10 +4,10 @@ use mathlib.Core.Path.{_≡_}
 use mathlib.Core.Bool.{true, false}
 use Prim.Native.Nat.{ℕ, _+_, _*_, _<_}
 use lib.ListN.{length, getD}
-use Rattle.chip.specs.declared.Condition.the-variants.{Free, Clean}
-use Rattle.chip.specs.declared.Mapping.{Mapping}
-use Rattle.chip.specs.Figures.{Layout, sectors}
-use Rattle.chip.specs.Blocks.{records, blockOf, blockAt}
+use Rattle.chip.specs.Figures.{Layout, sectors, records}
+use Rattle.mapping.specs.declared.Condition.the-variants.{Free, Clean}
+use Rattle.mapping.specs.declared.Mapping.{Mapping}
+use Rattle.mapping.specs.Blocks.{blockOf, blockAt}
 use Rattle.journal.specs.declared.Entry.{Entry}
 
 -- ticket j of block u

@@ -6,11 +6,11 @@ use Prim.Native.Nat.{ℕ, _+_, _*_, _≤_, _<_}
 use lib.ListN.{length, getD}
 use Rattle.chip.specs.declared.Chip.{Chip}
 use Rattle.chip.specs.declared.ChipOf.the-variants.{Known}
-use Rattle.chip.specs.declared.Condition.the-variants.{Changed}
-use Rattle.chip.specs.declared.Mapping.{Mapping}
-use Rattle.chip.specs.Figures.{Layout, layoutOf, virtuals, sectors, imageLen, fromLen}
-use Rattle.chip.specs.Blocks.{records, noBlock, blockAt, freeAt}
-use Rattle.chip.specs.Fits.{fitsAs, Apart}
+use Rattle.chip.specs.Figures.{Layout, layoutOf, virtuals, sectors, imageLen, fromLen, records}
+use Rattle.mapping.specs.declared.Condition.the-variants.{Changed}
+use Rattle.mapping.specs.declared.Mapping.{Mapping}
+use Rattle.mapping.specs.Blocks.{noBlock, blockAt, freeAt}
+use Rattle.mapping.specs.Fits.{fitsAs, Apart}
 
 pub record Opened (l : Layout) (m : Mapping) : Type 0 where
   -- the length is the image's, and there are records and tickets for as many blocks as a byte can name

@@ -3,13 +3,13 @@
 use mathlib.Core.List.{List, [], _∷_}
 use Prim.Native.Nat.{ℕ, zero, suc, _+_}
 use Rattle.lists.specs.Words.{pick}
-use Rattle.chip.specs.declared.Answer.the-variants.{Accepted, CopiesDiffer, BadEntry}
-use Rattle.chip.specs.declared.Found.{Found}
-use Rattle.chip.specs.declared.Found.the-variants.{At, Nothing}
-use Rattle.chip.specs.declared.Mapping.{Mapping}
-use Rattle.chip.specs.declared.Outcome.{Outcome}
 use Rattle.chip.specs.Figures.{Layout, slotCount}
-use Rattle.chip.specs.Outcomes.{outcome, refused}
+use Rattle.mapping.specs.declared.Answer.the-variants.{Accepted, CopiesDiffer, BadEntry}
+use Rattle.mapping.specs.declared.Found.{Found}
+use Rattle.mapping.specs.declared.Found.the-variants.{At, Nothing}
+use Rattle.mapping.specs.declared.Mapping.{Mapping}
+use Rattle.mapping.specs.declared.Outcome.{Outcome}
+use Rattle.mapping.specs.Outcomes.{outcome, refused}
 use Rattle.journal.specs.declared.Entry.{Entry}
 use Rattle.journal.specs.Entries.{slotAt, twins, ends, entryOf, entryOk, applied}
 

@@ -3,12 +3,12 @@
 use mathlib.Core.List.{List}
 use Prim.Native.Nat.{ℕ}
 use Rattle.lists.specs.Words.{pick}
-use Rattle.chip.specs.declared.Answer.the-variants.{Accepted, WrongLength, WrongMapSum, BadNumber, ReservedInUse}
-use Rattle.chip.specs.declared.Mapping.{Mapping}
-use Rattle.chip.specs.declared.Outcome.{Outcome}
 use Rattle.chip.specs.Figures.{Layout, layoutOf, reserved, fromLen, byChip}
-use Rattle.chip.specs.Fits.{reservedFree}
-use Rattle.chip.specs.Outcomes.{outcome, refused, andThen, unlessFound}
+use Rattle.mapping.specs.declared.Answer.the-variants.{Accepted, WrongLength, WrongMapSum, BadNumber, ReservedInUse}
+use Rattle.mapping.specs.declared.Mapping.{Mapping}
+use Rattle.mapping.specs.declared.Outcome.{Outcome}
+use Rattle.mapping.specs.Fits.{reservedFree}
+use Rattle.mapping.specs.Outcomes.{outcome, refused, andThen, unlessFound}
 use Rattle.block_map.specs.Items.{loaded, sumHolds, badNumber}
 use Rattle.journal.specs.Replay.{journalOf}
 

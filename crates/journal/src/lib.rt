@@ -4,22 +4,22 @@ ghost use mathlib.Core.Path.{_≡_};
 ghost use Prim.Native.Nat.{_≤_};
 ghost use lib.ListN.{length, take, drop};
 ghost use Rattle.lists.specs.Words.{rep};
-ghost use Rattle.chip.specs.declared.Condition.the-variants.{Free, Clean};
+ghost use Rattle.mapping.specs.declared.Condition.the-variants.{Free, Clean};
 ghost use Rattle.chip.specs.Figures.{layoutOf, blockLen, slotLen, sectors};
-ghost use Rattle.chip.specs.Blocks.{blockOf, withTickets};
+ghost use Rattle.mapping.specs.Blocks.{blockOf, withTickets};
 ghost use Rattle.journal.specs.Entries.{twins, entryOf, countBefore, allowed};
 ghost use Rattle.journal.specs.Replay.{journalOf};
 ghost use Rattle.journal.specs.Steps.{step6, steps4to6, steps2to6, steps1to6};
-use chip::Answer;
-use chip::Block;
 use chip::Chip;
 use chip::ChipOf;
-use chip::Condition;
-use chip::Found;
-use chip::Mapping;
-use chip::Outcome;
-use chip::Physical;
-use chip::Virtual;
+use mapping::Answer;
+use mapping::Block;
+use mapping::Condition;
+use mapping::Found;
+use mapping::Mapping;
+use mapping::Outcome;
+use mapping::Physical;
+use mapping::Virtual;
 
 // A journal entry: v moves from q to p with count c, and w, which had p, is freed with q and count d.
 pub struct Entry {

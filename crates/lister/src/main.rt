@@ -1,11 +1,11 @@
 // The lister: reads an image from standard input through a 4 KiB buffer and lists its in-use blocks. It keeps block zero only
 // and never looks at tickets. What a line says is decided in `listing`; here is only reading and printing.
 use chip::Chip;
-use chip::Mapping;
-use chip::Virtual;
 use libc::STDIN_FILENO;
 use libc::STDOUT_FILENO;
 use listing::Line;
+use mapping::Mapping;
+use mapping::Virtual;
 
 // Reads and counts what follows the first bytes, until the input ends or the count has reached the limit. A buffer that is
 // not filled is the end of the input, and so is a read that fails.

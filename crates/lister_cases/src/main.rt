@@ -4,10 +4,10 @@ ghost use mathlib.Core.Path.{_≡_};
 ghost use Prim.Native.Nat.{_≤_};
 ghost use lib.ListN.{length};
 use chip::Chip;
-use chip::Mapping;
-use chip::Virtual;
 use libc::STDOUT_FILENO;
 use listing::Line;
+use mapping::Mapping;
+use mapping::Virtual;
 
 // Prints a word and a number.
 fn number(name: &[u8], n: usize) {

@@ -5,13 +5,13 @@ use Prim.Native.Nat.{ℕ, _+_}
 use lib.Dec.{eqb, leb}
 use lib.ListN.{length}
 use Rattle.lists.specs.Words.{pick}
-use Rattle.chip.specs.declared.Answer.the-variants.{WrongLength}
 use Rattle.chip.specs.declared.Chip.the-variants.{Mib1}
-use Rattle.chip.specs.declared.Mapping.{Mapping}
-use Rattle.chip.specs.declared.Outcome.{Outcome}
 use Rattle.chip.specs.Figures.{layoutOf, blockLen, virtuals, imageLen, fromLen, byChip}
-use Rattle.chip.specs.Blocks.{blockAt, freeAt}
-use Rattle.chip.specs.Outcomes.{refused}
+use Rattle.mapping.specs.declared.Answer.the-variants.{WrongLength}
+use Rattle.mapping.specs.declared.Mapping.{Mapping}
+use Rattle.mapping.specs.declared.Outcome.{Outcome}
+use Rattle.mapping.specs.Blocks.{blockAt, freeAt}
+use Rattle.mapping.specs.Outcomes.{refused}
 use Rattle.journal.specs.Steps.{steps1to6}
 use Rattle.listing.specs.declared.Line.{Line}
 use Rattle.listing.specs.declared.Line.the-variants.{Hidden, Shown}

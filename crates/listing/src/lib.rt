@@ -1,15 +1,15 @@
 // What the lister prints, decided on slices and numbers: the program itself only reads and writes.
 ghost use mathlib.Core.Path.{_≡_};
 ghost use Prim.Native.Nat.{_<_};
-ghost use Rattle.chip.specs.Blocks.{records};
+ghost use Rattle.chip.specs.Figures.{records};
 ghost use Rattle.listing.specs.Lines.{limit, countedOf, reportOf, linesOf, lineOf};
-use chip::Answer;
 use chip::Chip;
 use chip::ChipOf;
-use chip::Mapping;
-use chip::Outcome;
-use chip::Physical;
-use chip::Virtual;
+use mapping::Answer;
+use mapping::Mapping;
+use mapping::Outcome;
+use mapping::Physical;
+use mapping::Virtual;
 
 // The count at which reading stops: one past the largest chip.
 pub fn limit() -> usize

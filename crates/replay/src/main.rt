@@ -6,14 +6,14 @@
 // seed. The head of `record` has the format, which is read here in the same order. Past the end of the file every byte reads
 // as zero. Everything in it is replayed.
 ghost use Prim.Native.Nat.{_≤_};
-use chip::Answer;
 use chip::Chip;
 use chip::ChipOf;
-use chip::Condition;
-use chip::Mapping;
-use chip::Virtual;
 use libc::STDIN_FILENO;
 use libc::STDOUT_FILENO;
+use mapping::Answer;
+use mapping::Condition;
+use mapping::Mapping;
+use mapping::Virtual;
 
 // One call of a run, with the sums that were recorded after it.
 struct Step {

@@ -14,10 +14,10 @@ use Rattle.lists.proofs.Orders.{by-test}
 use Rattle.lists.proofs.Tabulate.{length-tabulate, getD-tabulate}
 use Rattle.lists.proofs.Splice.{splice-splice, splice-whole, part-back}
 use Rattle.lists.proofs.Windows.{length-window, getD-window, window-ext, take-drop}
-use Rattle.chip.specs.declared.Block.{Block}
-use Rattle.chip.specs.declared.Mapping.{Mapping}
 use Rattle.chip.specs.Figures.{blockLen, erased}
-use Rattle.chip.specs.Blocks.{isFree, blockAt, numberAt, freeAt, lenOf}
+use Rattle.mapping.specs.declared.Block.{Block}
+use Rattle.mapping.specs.declared.Mapping.{Mapping}
+use Rattle.mapping.specs.Blocks.{isFree, blockAt, numberAt, freeAt, lenOf}
 use Rattle.save.specs.Save.{byteAt, saveBytes}
 use Rattle.save.specs.Readable.{blockPart, PartIn, Readable}
 

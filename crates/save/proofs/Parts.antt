@@ -11,9 +11,9 @@ use Rattle.lists.specs.Words.{splice}
 use Rattle.lists.proofs.Splice.{splice-splice}
 use Rattle.lists.proofs.Windows.{slice-append}
 use Rattle.chip.specs.Figures.{blockLen, sectorLen, sectors}
-use Rattle.chip.specs.declared.Block.{Block}
-use Rattle.chip.specs.declared.Mapping.{Mapping}
-use Rattle.chip.specs.Blocks.{noBlock, mappingOf, blockAt, numberAt, withBlock}
+use Rattle.mapping.specs.declared.Block.{Block}
+use Rattle.mapping.specs.declared.Mapping.{Mapping}
+use Rattle.mapping.specs.Blocks.{noBlock, mappingOf, blockAt, numberAt, withBlock}
 use Rattle.tickets.specs.Tickets.{sectorPlace}
 use Rattle.tickets.proofs.Fitting.{fitting}
 use Rattle.save.specs.Visits.{State, state, firstSector, endSector, visitedBlock, openedImage, storedPart, partFrom, partEnd, CanWrite}

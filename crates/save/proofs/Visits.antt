@@ -9,11 +9,11 @@ use lib.ListN.{length, getD, set, length-replicate, replicate-append-replicate}
 use lib.Seq.{slice, take-all, length-slice}
 use Rattle.lists.specs.Words.{pick, splice, rep}
 use Rattle.lists.proofs.Splice.{splice-splice, length-splice}
-use Rattle.chip.specs.Figures.{layoutOf, reserved, blockLen, sectorLen, sectors, erased}
-use Rattle.chip.specs.declared.Block.{Block}
-use Rattle.chip.specs.declared.Mapping.{Mapping}
-use Rattle.chip.specs.Blocks.{records, isFree, noBlock, blockAt, numberAt, withBlock}
+use Rattle.chip.specs.Figures.{layoutOf, reserved, blockLen, sectorLen, sectors, erased, records}
 use Rattle.chip.proofs.Layouts.{sound}
+use Rattle.mapping.specs.declared.Block.{Block}
+use Rattle.mapping.specs.declared.Mapping.{Mapping}
+use Rattle.mapping.specs.Blocks.{isFree, noBlock, blockAt, numberAt, withBlock}
 use Rattle.tickets.specs.Tickets.{sectorPlace}
 use Rattle.tickets.proofs.Fitting.{fitting, fits-lies}
 use Rattle.save.specs.Visits.{State, state, firstSector, endSector, visitCount, visitedBlock, openedImage, storedPart, partFrom, partEnd, visit, visits, written, CanWrite}

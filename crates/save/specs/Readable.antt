@@ -3,10 +3,10 @@ use mathlib.Core.List.{List}
 use Prim.Native.Nat.{ℕ, _+_, _*_, _<_, _≤_}
 use lib.ListN.{length, take, drop}
 use Rattle.lists.specs.Words.{pick, rep}
-use Rattle.chip.specs.declared.Block.{Block}
-use Rattle.chip.specs.declared.Mapping.{Mapping}
-use Rattle.chip.specs.Figures.{blockLen, erased}
-use Rattle.chip.specs.Blocks.{records, isFree, numberAt, lenOf}
+use Rattle.chip.specs.Figures.{blockLen, erased, records}
+use Rattle.mapping.specs.declared.Block.{Block}
+use Rattle.mapping.specs.declared.Mapping.{Mapping}
+use Rattle.mapping.specs.Blocks.{isFree, numberAt, lenOf}
 
 -- n bytes of the block b from `off` on: "a free block reads as 0xFF"
 unfoldable pub blockPart : List ℕ → Block → ℕ → ℕ → List ℕ

@@ -3,9 +3,9 @@ use mathlib.Core.List.{List}
 use Prim.Native.Nat.{ℕ, _+_, _*_, _/_, _%_}
 use lib.ListN.{getD}
 use Rattle.lists.specs.Words.{pick, tabulate}
-use Rattle.chip.specs.declared.Mapping.{Mapping}
 use Rattle.chip.specs.Figures.{blockLen, erased}
-use Rattle.chip.specs.Blocks.{freeAt, numberAt, lenOf}
+use Rattle.mapping.specs.declared.Mapping.{Mapping}
+use Rattle.mapping.specs.Blocks.{freeAt, numberAt, lenOf}
 
 -- byte i of the save: "a free block reads as 0xFF"
 unfoldable pub byteAt : List ℕ → Mapping → ℕ → ℕ

@@ -8,12 +8,12 @@ use lib.Dec.{eqb}
 use lib.ListN.{length}
 use lib.Seq.{slice}
 use Rattle.lists.specs.Words.{pick, splice, rep}
-use Rattle.chip.specs.declared.Block.{Block}
-use Rattle.chip.specs.declared.Condition.the-variants.{Changed}
-use Rattle.chip.specs.declared.Mapping.{Mapping}
 use Rattle.chip.specs.Figures.{blockLen, sectorLen, sectors, erased}
-use Rattle.chip.specs.Blocks.{isFree, blockOf, blockAt, withBlock, lenOf}
-use Rattle.chip.specs.Fits.{fits}
+use Rattle.mapping.specs.declared.Block.{Block}
+use Rattle.mapping.specs.declared.Condition.the-variants.{Changed}
+use Rattle.mapping.specs.declared.Mapping.{Mapping}
+use Rattle.mapping.specs.Blocks.{isFree, blockOf, blockAt, withBlock, lenOf}
+use Rattle.mapping.specs.Fits.{fits}
 use Rattle.tickets.specs.Tickets.{sectorPlace}
 
 -- an image with its mapping

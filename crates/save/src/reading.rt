@@ -5,9 +5,9 @@ ghost use Rattle.save.specs.Save.{saveBytes};
 ghost use Rattle.save.specs.Readable.{blockPart, PartIn, Readable};
 use crate::slices::copy;
 use crate::slices::smaller;
-use chip::Block;
 use chip::Chip;
-use chip::Mapping;
+use mapping::Block;
+use mapping::Mapping;
 
 // part becomes the bytes of the block b from `off` on; a free block reads as erased.
 fn read_block(image: &[u8], b: Block, off: usize, part: &mut [u8])

@@ -9,11 +9,11 @@ ghost use Rattle.save.specs.Parts.{storedParts, CanStore};
 use crate::slices::copy;
 use crate::slices::larger;
 use crate::slices::smaller;
-use chip::Block;
 use chip::Chip;
-use chip::Condition;
-use chip::Mapping;
-use chip::Physical;
+use mapping::Block;
+use mapping::Condition;
+use mapping::Mapping;
+use mapping::Physical;
 
 // The one fixed blank sheet: a sector of erased bytes.
 const CHUNK_INIT: [u8; Chip::SECTOR] = [Chip::ERASED; Chip::SECTOR];

@@ -9,15 +9,15 @@ use native.Mathlib.Omega.{arith}
 use lib.ListN.{length, getD}
 use Rattle.lists.proofs.Orders.{not-both}
 use Rattle.lists.proofs.Splice.{getD-splice-in}
-use Rattle.chip.specs.declared.Answer.the-variants.{Accepted}
 use Rattle.chip.specs.declared.Chip.{Chip}
 use Rattle.chip.specs.declared.ChipOf.the-variants.{Known}
-use Rattle.chip.specs.declared.Condition.the-variants.{Clean, Changed}
-use Rattle.chip.specs.declared.Found.the-variants.{Nothing}
-use Rattle.chip.specs.declared.Mapping.{Mapping}
-use Rattle.chip.specs.Figures.{Layout, layoutOf, virtuals, sectors, imageLen, fromLen}
-use Rattle.chip.specs.Blocks.{records, blockOf, blockAt}
-use Rattle.chip.specs.Outcomes.{outcome}
+use Rattle.chip.specs.Figures.{Layout, layoutOf, virtuals, sectors, imageLen, fromLen, records}
+use Rattle.mapping.specs.declared.Answer.the-variants.{Accepted}
+use Rattle.mapping.specs.declared.Condition.the-variants.{Clean, Changed}
+use Rattle.mapping.specs.declared.Found.the-variants.{Nothing}
+use Rattle.mapping.specs.declared.Mapping.{Mapping}
+use Rattle.mapping.specs.Blocks.{blockOf, blockAt}
+use Rattle.mapping.specs.Outcomes.{outcome}
 use Rattle.block_map.specs.Put.{fresh, formatted}
 use Rattle.journal.specs.declared.Entry.{Entry}
 use Rattle.journal.specs.Entries.{entryOk, applied}

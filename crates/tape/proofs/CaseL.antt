@@ -12,22 +12,22 @@ use lib.ListN.{length, take, length-set}
 use lib.Seq.{length-take-le, getD-set-same, getD-set-other}
 use Rattle.lists.specs.Words.{pick}
 use Rattle.lists.proofs.Tests.{and-both}
-use Rattle.chip.specs.declared.Answer.the-variants.{Accepted, CountTooHigh}
-use Rattle.chip.specs.declared.Block.{Block}
 use Rattle.chip.specs.declared.Chip.the-variants.{Mib1}
 use Rattle.chip.specs.declared.ChipOf.the-variants.{Known}
-use Rattle.chip.specs.declared.Condition.the-variants.{Free, Changed}
-use Rattle.chip.specs.declared.Found.the-variants.{At}
-use Rattle.chip.specs.declared.Mapping.{Mapping}
-use Rattle.chip.specs.declared.Outcome.{Outcome}
 use Rattle.chip.specs.Figures.{Layout, layoutOf, virtuals, reserved, blockLen, imageLen, inUseBit, fromLen}
-use Rattle.chip.specs.Blocks.{isFree, noBlock, blockOf, blockAt, numberAt, countAt, withBlock}
-use Rattle.chip.specs.Fits.{fitsAs, fitsOwn, fits}
-use Rattle.chip.specs.Fits.Laws.{own-known, fits-is}
-use Rattle.chip.specs.Answers.{highCountOn, highCount}
-use Rattle.chip.specs.Outcomes.{outcome}
-use Rattle.chip.specs.Search.{firstOf}
 use Rattle.chip.proofs.Layouts.{sound, from-own}
+use Rattle.mapping.specs.declared.Answer.the-variants.{Accepted, CountTooHigh}
+use Rattle.mapping.specs.declared.Block.{Block}
+use Rattle.mapping.specs.declared.Condition.the-variants.{Free, Changed}
+use Rattle.mapping.specs.declared.Found.the-variants.{At}
+use Rattle.mapping.specs.declared.Mapping.{Mapping}
+use Rattle.mapping.specs.declared.Outcome.{Outcome}
+use Rattle.mapping.specs.Blocks.{isFree, noBlock, blockOf, blockAt, numberAt, countAt, withBlock}
+use Rattle.mapping.specs.Fits.{fitsAs, fitsOwn, fits}
+use Rattle.mapping.specs.Fits.Laws.{own-known, fits-is}
+use Rattle.mapping.specs.Answers.{highCountOn, highCount}
+use Rattle.mapping.specs.Outcomes.{outcome}
+use Rattle.mapping.specs.Search.{firstOf}
 use Rattle.block_map.specs.Put.{fresh, putMap}
 use Rattle.block_map.proofs.Settled.{fresh-in}
 use Rattle.journal.specs.declared.Entry.{Entry}

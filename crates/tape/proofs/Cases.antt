@@ -12,19 +12,19 @@ use lib.Seq.{take-at, drop-at, take-all, getD-set-same}
 use Rattle.lists.specs.Words.{splice, rep}
 use Rattle.lists.proofs.Tests.{and-both}
 use Rattle.crc16.specs.Crc.{bitStep, byteStep, crcFrom}
-use Rattle.chip.specs.declared.Answer.{Answer}
-use Rattle.chip.specs.declared.Answer.the-variants.{Accepted, CopiesDiffer, BadEntry}
-use Rattle.chip.specs.declared.Block.{Block}
 use Rattle.chip.specs.declared.Chip.{Chip}
 use Rattle.chip.specs.declared.Chip.the-variants.{Kib128, Kib512, Mib1}
-use Rattle.chip.specs.declared.Mapping.{Mapping}
-use Rattle.chip.specs.declared.Outcome.{Outcome}
 use Rattle.chip.specs.Figures.{Layout, layoutOf, virtuals, reserved, blockLen, imageLen, mapLen, saveLen, slotLen, journalAt}
-use Rattle.chip.specs.Blocks.{isFree, noBlock, blockAt, countAt, freeAt, lenOf, withBlock}
-use Rattle.chip.specs.Fits.{fits}
-use Rattle.chip.specs.Answers.{inSave, numberOf}
-use Rattle.chip.specs.Outcomes.{outcome, refused}
 use Rattle.chip.proofs.Layouts.{sound, slot-fits, from-own}
+use Rattle.mapping.specs.declared.Answer.{Answer}
+use Rattle.mapping.specs.declared.Answer.the-variants.{Accepted, CopiesDiffer, BadEntry}
+use Rattle.mapping.specs.declared.Block.{Block}
+use Rattle.mapping.specs.declared.Mapping.{Mapping}
+use Rattle.mapping.specs.declared.Outcome.{Outcome}
+use Rattle.mapping.specs.Blocks.{isFree, noBlock, blockAt, countAt, freeAt, lenOf, withBlock}
+use Rattle.mapping.specs.Fits.{fits}
+use Rattle.mapping.specs.Answers.{inSave, numberOf}
+use Rattle.mapping.specs.Outcomes.{outcome, refused}
 use Rattle.block_map.specs.Items.{decoded}
 use Rattle.block_map.specs.Put.{itemPair, fresh, formatted}
 use Rattle.block_map.proofs.RoundTrip.{put-first, put-second}

@@ -7,13 +7,13 @@ use mathlib.Core.List.{List, [], _∷_}
 use Prim.Native.Nat.{ℕ}
 use borrow.Author.Tests.{eq-eqb}
 use lib.ListN.{length, take, drop}
-use Rattle.chip.specs.declared.Answer.the-variants.{Accepted}
 use Rattle.chip.specs.declared.Chip.{Chip}
-use Rattle.chip.specs.declared.Mapping.{Mapping}
 use Rattle.chip.specs.Figures.{layoutOf}
-use Rattle.chip.specs.Fits.{fits}
-use Rattle.chip.specs.Answers.{numberOf, highCount, highCountOn}
-use Rattle.chip.specs.Outcomes.{outcome}
+use Rattle.mapping.specs.declared.Answer.the-variants.{Accepted}
+use Rattle.mapping.specs.declared.Mapping.{Mapping}
+use Rattle.mapping.specs.Fits.{fits}
+use Rattle.mapping.specs.Answers.{numberOf, highCount, highCountOn}
+use Rattle.mapping.specs.Outcomes.{outcome}
 use Rattle.save.specs.Save.{saveBytes}
 use Rattle.save.specs.Visits.{State, state}
 use Rattle.wear_leveling.specs.Open.{openOf}

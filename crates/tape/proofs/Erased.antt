@@ -9,11 +9,11 @@ use borrow.Author.Tests.{eq-eqb}
 use lib.ListN.{getD}
 use Rattle.lists.proofs.Tests.{all-by}
 use Rattle.lists.proofs.Windows.{getD-window}
-use Rattle.chip.specs.declared.Answer.the-variants.{Accepted}
-use Rattle.chip.specs.declared.Mapping.{Mapping}
 use Rattle.chip.specs.Figures.{Layout, blockLen, slotLen, journalAt, slotCount, erased}
-use Rattle.chip.specs.Outcomes.{outcome}
 use Rattle.chip.proofs.Layouts.{Sound, slot-fits}
+use Rattle.mapping.specs.declared.Answer.the-variants.{Accepted}
+use Rattle.mapping.specs.declared.Mapping.{Mapping}
+use Rattle.mapping.specs.Outcomes.{outcome}
 use Rattle.journal.specs.Entries.{slotAt, entryLen, twins, ends}
 use Rattle.journal.specs.Replay.{entriesFrom, tornFrom, replay, journalOf}
 

@@ -14,19 +14,19 @@ use Rattle.lists.proofs.Orders.{split}
 use Rattle.lists.proofs.Tests.{and-both}
 use Rattle.lists.proofs.Splice.{length-splice}
 use Rattle.lists.proofs.Tabulate.{tabulate-same}
-use Rattle.chip.specs.declared.Answer.the-variants.{Accepted}
-use Rattle.chip.specs.declared.Block.{Block}
 use Rattle.chip.specs.declared.Chip.{Chip}
-use Rattle.chip.specs.declared.Found.the-variants.{Nothing}
-use Rattle.chip.specs.Figures.{Layout, layoutOf, virtuals, reserved, blockLen, sectors, imageLen, inUseBit, mapLen, saveLen, erased, fromLen}
-use Rattle.chip.specs.Blocks.{isFree, records, noBlock, numberAt, countAt, freeAt, lenOf}
-use Rattle.chip.specs.Fits.{eachOnce, reservedFree, fitsAs, fitsOwn, fits}
-use Rattle.chip.specs.Fits.Laws.{own-known, fits-is}
-use Rattle.chip.specs.Search.{firstOf}
-use Rattle.chip.specs.Outcomes.{outcome, andThen}
+use Rattle.chip.specs.Figures.{Layout, layoutOf, virtuals, reserved, blockLen, sectors, imageLen, inUseBit, mapLen, saveLen, erased, fromLen, records}
 use Rattle.chip.proofs.Layouts.{Sound, sound, map-fits, from-own}
-use Rattle.chip.proofs.Onto.{apart-once}
-use Rattle.chip.proofs.Searches.{first-misses}
+use Rattle.mapping.specs.declared.Answer.the-variants.{Accepted}
+use Rattle.mapping.specs.declared.Block.{Block}
+use Rattle.mapping.specs.declared.Found.the-variants.{Nothing}
+use Rattle.mapping.specs.Blocks.{isFree, noBlock, numberAt, countAt, freeAt, lenOf}
+use Rattle.mapping.specs.Fits.{eachOnce, reservedFree, fitsAs, fitsOwn, fits}
+use Rattle.mapping.specs.Fits.Laws.{own-known, fits-is}
+use Rattle.mapping.specs.Search.{firstOf}
+use Rattle.mapping.specs.Outcomes.{outcome, andThen}
+use Rattle.mapping.proofs.Onto.{apart-once}
+use Rattle.mapping.proofs.Searches.{first-misses}
 use Rattle.block_map.specs.Put.{fresh, formatted}
 use Rattle.block_map.proofs.Settled.{fresh-is, fresh-in}
 use Rattle.journal.specs.Opened.{Opened}

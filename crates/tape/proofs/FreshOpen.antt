@@ -14,17 +14,17 @@ use Rattle.lists.proofs.Orders.{by-test}
 use Rattle.lists.proofs.Tests.{all-at}
 use Rattle.lists.proofs.Windows.{take-splice-in}
 use Rattle.crc16.specs.Crc.{crc16}
-use Rattle.chip.specs.declared.Answer.the-variants.{Accepted}
 use Rattle.chip.specs.declared.Chip.{Chip}
-use Rattle.chip.specs.declared.Found.the-variants.{Nothing}
-use Rattle.chip.specs.declared.Mapping.{Mapping}
-use Rattle.chip.specs.Figures.{Layout, layoutOf, virtuals, blockLen, sectors, imageLen, headerLen, itemLen, mapLen, journalAt, erased, inUseBit}
-use Rattle.chip.specs.Blocks.{records, numberAt, countAt, freeAt}
-use Rattle.chip.specs.Fits.{placed, reservedFree}
-use Rattle.chip.specs.Outcomes.{outcome}
+use Rattle.chip.specs.Figures.{Layout, layoutOf, virtuals, blockLen, sectors, imageLen, headerLen, itemLen, mapLen, journalAt, erased, inUseBit, records}
 use Rattle.chip.proofs.Layouts.{Sound, sound, map-fits, slot-fits, from-own}
-use Rattle.chip.proofs.Onto.{apart-once}
-use Rattle.chip.proofs.Searches.{first-misses, first-ext}
+use Rattle.mapping.specs.declared.Answer.the-variants.{Accepted}
+use Rattle.mapping.specs.declared.Found.the-variants.{Nothing}
+use Rattle.mapping.specs.declared.Mapping.{Mapping}
+use Rattle.mapping.specs.Blocks.{numberAt, countAt, freeAt}
+use Rattle.mapping.specs.Fits.{placed, reservedFree}
+use Rattle.mapping.specs.Outcomes.{outcome}
+use Rattle.mapping.proofs.Onto.{apart-once}
+use Rattle.mapping.proofs.Searches.{first-misses, first-ext}
 use Rattle.block_map.specs.Items.{badNumber}
 use Rattle.block_map.specs.Put.{items, lowFirst, withItems, withSum, withJournal, putMap, keepsTickets}
 use Rattle.block_map.proofs.Puts.{items-fit, length-items}

@@ -15,12 +15,12 @@ use Rattle.lists.proofs.Tests.{all-by}
 use Rattle.lists.proofs.Splice.{length-splice, take-splice, getD-splice-at, getD-splice-above}
 use Rattle.lists.proofs.Tabulate.{tabulate-ext, upTo-ext}
 use Rattle.lists.proofs.Windows.{length-window, getD-window, window-ext}
-use Rattle.chip.specs.declared.Answer.the-variants.{Accepted, CopiesDiffer, BadEntry}
-use Rattle.chip.specs.declared.Mapping.{Mapping}
-use Rattle.chip.specs.Figures.{Layout, virtuals, blockLen, sectors, imageLen, inUseBit, erased, largeItem, smallItem, itemLen, mapLen, journalAt, slotLen, slotCount}
-use Rattle.chip.specs.Blocks.{noBlock, records, countAt}
-use Rattle.chip.specs.Outcomes.{outcome, refused, andThen}
+use Rattle.chip.specs.Figures.{Layout, virtuals, blockLen, sectors, imageLen, inUseBit, erased, largeItem, smallItem, itemLen, mapLen, journalAt, slotLen, slotCount, records}
 use Rattle.chip.proofs.Layouts.{Sound}
+use Rattle.mapping.specs.declared.Answer.the-variants.{Accepted, CopiesDiffer, BadEntry}
+use Rattle.mapping.specs.declared.Mapping.{Mapping}
+use Rattle.mapping.specs.Blocks.{noBlock, countAt}
+use Rattle.mapping.specs.Outcomes.{outcome, refused, andThen}
 use Rattle.block_map.specs.Items.{itemAt, itemBlock, itemTicket, blockEntry, ticketEntry, loaded, sumHolds}
 use Rattle.block_map.specs.Put.{putMap}
 use Rattle.block_map.proofs.Puts.{items-fit}

@@ -12,17 +12,17 @@ use lib.ListN.{length, take}
 use lib.Seq.{take-at, take-all}
 use Rattle.lists.specs.Words.{pick, rep}
 use Rattle.lists.proofs.Tests.{and-both}
-use Rattle.chip.specs.declared.Answer.the-variants.{Accepted}
-use Rattle.chip.specs.declared.Block.{Block}
 use Rattle.chip.specs.declared.Chip.{Chip}
-use Rattle.chip.specs.declared.Found.the-variants.{At}
-use Rattle.chip.specs.declared.Mapping.{Mapping}
 use Rattle.chip.specs.Figures.{Layout, layoutOf, virtuals, reserved, blockLen, sectors, imageLen, inUseBit, erased, slotLen, journalAt}
-use Rattle.chip.specs.Blocks.{isFree, numberAt, countAt, freeAt}
-use Rattle.chip.specs.Fits.{inside, reservedFree}
-use Rattle.chip.specs.Outcomes.{outcome}
-use Rattle.chip.specs.Search.{firstFrom}
 use Rattle.chip.proofs.Layouts.{Sound, sound, slot-fits, from-own}
+use Rattle.mapping.specs.declared.Answer.the-variants.{Accepted}
+use Rattle.mapping.specs.declared.Block.{Block}
+use Rattle.mapping.specs.declared.Found.the-variants.{At}
+use Rattle.mapping.specs.declared.Mapping.{Mapping}
+use Rattle.mapping.specs.Blocks.{isFree, numberAt, countAt, freeAt}
+use Rattle.mapping.specs.Fits.{inside, reservedFree}
+use Rattle.mapping.specs.Outcomes.{outcome}
+use Rattle.mapping.specs.Search.{firstFrom}
 use Rattle.block_map.specs.Put.{putMap}
 use Rattle.journal.specs.declared.Entry.{Entry}
 use Rattle.journal.specs.Entries.{entryLen, entryOf, allowed, entryOk, applied}

@@ -12,22 +12,22 @@ use lib.Dec.{ltb, leb}
 use lib.ListN.{length, getD, List·getD-eq-default}
 use Rattle.lists.proofs.Orders.{split, by-test, not-both}
 use Rattle.lists.proofs.Tabulate.{length-tabulate}
-use Rattle.chip.specs.declared.Answer.the-variants.{Accepted}
-use Rattle.chip.specs.declared.Block.{Block}
 use Rattle.chip.specs.declared.Chip.{Chip}
-use Rattle.chip.specs.declared.Condition.{Condition}
-use Rattle.chip.specs.declared.Condition.the-variants.{Free, Clean, Changed}
-use Rattle.chip.specs.declared.Found.{Found}
-use Rattle.chip.specs.declared.Found.the-variants.{At, Nothing}
-use Rattle.chip.specs.declared.Mapping.{Mapping}
-use Rattle.chip.specs.Figures.{Layout, layoutOf, virtuals, blockLen, sectors, imageLen, journalAt, erased, inUseBit}
-use Rattle.chip.specs.Blocks.{records, noBlock, isFree, blockAt, numberAt, countAt, freeAt}
-use Rattle.chip.specs.Fits.{Apart, reservedFree, fits}
-use Rattle.chip.specs.Answers.{numberOf, highCount, highCountOn}
-use Rattle.chip.specs.Outcomes.{outcome}
+use Rattle.chip.specs.Figures.{Layout, layoutOf, virtuals, blockLen, sectors, imageLen, journalAt, erased, inUseBit, records}
 use Rattle.chip.proofs.Layouts.{sound, from-is}
-use Rattle.chip.proofs.Numbers.{zero-accepted}
-use Rattle.chip.proofs.Searches.{first-misses, first-none}
+use Rattle.mapping.specs.declared.Answer.the-variants.{Accepted}
+use Rattle.mapping.specs.declared.Block.{Block}
+use Rattle.mapping.specs.declared.Condition.{Condition}
+use Rattle.mapping.specs.declared.Condition.the-variants.{Free, Clean, Changed}
+use Rattle.mapping.specs.declared.Found.{Found}
+use Rattle.mapping.specs.declared.Found.the-variants.{At, Nothing}
+use Rattle.mapping.specs.declared.Mapping.{Mapping}
+use Rattle.mapping.specs.Blocks.{noBlock, isFree, blockAt, numberAt, countAt, freeAt}
+use Rattle.mapping.specs.Fits.{Apart, reservedFree, fits}
+use Rattle.mapping.specs.Answers.{numberOf, highCount, highCountOn}
+use Rattle.mapping.specs.Outcomes.{outcome}
+use Rattle.mapping.proofs.Numbers.{zero-accepted}
+use Rattle.mapping.proofs.Searches.{first-misses, first-none}
 use Rattle.block_map.specs.Put.{putMap}
 use Rattle.block_map.proofs.RoundTrip.{put-length, put-journal}
 use Rattle.journal.specs.Opened.{Opened}

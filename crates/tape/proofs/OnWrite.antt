@@ -10,15 +10,15 @@ use borrow.Author.Tests.{eq-eqb, ne-eqb}
 use lib.ListN.{length, getD}
 use Rattle.lists.specs.Words.{splice}
 use Rattle.lists.proofs.Orders.{not-both}
-use Rattle.chip.specs.declared.Answer.the-variants.{Accepted}
 use Rattle.chip.specs.declared.Chip.{Chip}
-use Rattle.chip.specs.declared.Condition.{Condition}
-use Rattle.chip.specs.declared.Condition.the-variants.{Clean, Changed}
-use Rattle.chip.specs.declared.Mapping.{Mapping}
 use Rattle.chip.specs.Figures.{sectors}
-use Rattle.chip.specs.Blocks.{isFree, blockAt}
-use Rattle.chip.specs.Answers.{numberOf}
-use Rattle.chip.proofs.Numbers.{zero-accepted}
+use Rattle.mapping.specs.declared.Answer.the-variants.{Accepted}
+use Rattle.mapping.specs.declared.Condition.{Condition}
+use Rattle.mapping.specs.declared.Condition.the-variants.{Clean, Changed}
+use Rattle.mapping.specs.declared.Mapping.{Mapping}
+use Rattle.mapping.specs.Blocks.{isFree, blockAt}
+use Rattle.mapping.specs.Answers.{numberOf}
+use Rattle.mapping.proofs.Numbers.{zero-accepted}
 use Rattle.tickets.specs.Tickets.{ticketIn}
 use Rattle.save.specs.Visits.{State, state, written}
 use Rattle.wear_leveling.specs.Read.{admission, ifAccepted}

@@ -7,15 +7,15 @@ use Prim.Native.Nat.{ℕ, _+_, _<_}
 use native.Mathlib.Omega.{arith}
 use borrow.Author.Tests.{lt-leb}
 use lib.ListN.{length}
-use Rattle.chip.specs.declared.Answer.the-variants.{Accepted, OutOfRange, CountTooHigh}
 use Rattle.chip.specs.declared.Chip.the-variants.{Mib1}
-use Rattle.chip.specs.declared.Mapping.{Mapping}
 use Rattle.chip.specs.Figures.{layoutOf, imageLen, saveLen, fromLen}
-use Rattle.chip.specs.Blocks.{lenOf}
-use Rattle.chip.specs.Fits.{fits}
-use Rattle.chip.specs.Answers.{numberOf}
-use Rattle.chip.specs.Outcomes.{outcome}
 use Rattle.chip.proofs.Layouts.{sound, from-own}
+use Rattle.mapping.specs.declared.Answer.the-variants.{Accepted, OutOfRange, CountTooHigh}
+use Rattle.mapping.specs.declared.Mapping.{Mapping}
+use Rattle.mapping.specs.Blocks.{lenOf}
+use Rattle.mapping.specs.Fits.{fits}
+use Rattle.mapping.specs.Answers.{numberOf}
+use Rattle.mapping.specs.Outcomes.{outcome}
 use Rattle.block_map.specs.Put.{putMap}
 use Rattle.journal.specs.Entries.{entryLen}
 use Rattle.tickets.proofs.Fitting.{fits-save}

@@ -10,23 +10,23 @@ use borrow.Author.Tests.{eq-eqb, ne-eqb, eqb-true, not-false}
 use lib.ListN.{length, getD, take}
 use lib.Seq.{length-take-le}
 use Rattle.lists.proofs.Orders.{split}
-use Rattle.chip.specs.declared.Answer.the-variants.{Accepted, WrongTicket}
 use Rattle.chip.specs.declared.Chip.{Chip}
 use Rattle.chip.specs.declared.ChipOf.the-variants.{Known}
-use Rattle.chip.specs.declared.Condition.the-variants.{Clean}
-use Rattle.chip.specs.declared.Found.{Found}
-use Rattle.chip.specs.declared.Found.the-variants.{At, Nothing}
-use Rattle.chip.specs.declared.Mapping.{Mapping}
-use Rattle.chip.specs.declared.Outcome.{Outcome}
 use Rattle.chip.specs.Figures.{layoutOf, virtuals, blockLen, sectors, fromLen}
-use Rattle.chip.specs.Blocks.{isFree, blockAt, numberAt}
-use Rattle.chip.specs.Fits.{fits}
-use Rattle.chip.specs.Fits.Laws.{own-known, fits-is}
-use Rattle.chip.specs.Answers.{numberOf}
-use Rattle.chip.specs.Outcomes.{outcome, refused, andThen, unlessFound}
 use Rattle.chip.proofs.Layouts.{from-is, from-short}
-use Rattle.chip.proofs.Numbers.{zero-accepted}
-use Rattle.chip.proofs.Searches.{first-none}
+use Rattle.mapping.specs.declared.Answer.the-variants.{Accepted, WrongTicket}
+use Rattle.mapping.specs.declared.Condition.the-variants.{Clean}
+use Rattle.mapping.specs.declared.Found.{Found}
+use Rattle.mapping.specs.declared.Found.the-variants.{At, Nothing}
+use Rattle.mapping.specs.declared.Mapping.{Mapping}
+use Rattle.mapping.specs.declared.Outcome.{Outcome}
+use Rattle.mapping.specs.Blocks.{isFree, blockAt, numberAt}
+use Rattle.mapping.specs.Fits.{fits}
+use Rattle.mapping.specs.Fits.Laws.{own-known, fits-is}
+use Rattle.mapping.specs.Answers.{numberOf}
+use Rattle.mapping.specs.Outcomes.{outcome, refused, andThen, unlessFound}
+use Rattle.mapping.proofs.Numbers.{zero-accepted}
+use Rattle.mapping.proofs.Searches.{first-none}
 use Rattle.journal.specs.Opened.{Opened, OpenedAs}
 use Rattle.journal.specs.Steps.{steps1to6}
 use Rattle.journal.proofs.Accepted.{accepted-as}

@@ -11,9 +11,9 @@ use lib.Seq.{slice, length-slice, length-take-le}
 use Rattle.lists.specs.Words.{pick, splice, rep}
 use Rattle.lists.proofs.Splice.{length-splice, getD-splice-at, getD-splice-out, splice-splice}
 use Rattle.lists.proofs.Windows.{take-slice}
-use Rattle.chip.specs.declared.Block.{Block}
 use Rattle.chip.specs.Figures.{blockLen, sectorLen, sectors, erased}
-use Rattle.chip.specs.Blocks.{isFree, blockAt, numberAt}
+use Rattle.mapping.specs.declared.Block.{Block}
+use Rattle.mapping.specs.Blocks.{isFree, blockAt, numberAt}
 use Rattle.tickets.specs.Tickets.{sectorPlace}
 use Rattle.save.specs.Visits.{State, firstSector, endSector, openedImage, storedPart, partFrom, partEnd, visit, visitCount}
 

@@ -12,12 +12,12 @@ use lib.Seq.{getD-set-same, getD-set-other}
 use Rattle.lists.specs.Words.{pick, splice}
 use Rattle.lists.proofs.Orders.{split}
 use Rattle.lists.proofs.Splice.{splice-intro}
-use Rattle.chip.specs.declared.Block.{Block}
-use Rattle.chip.specs.declared.Condition.the-variants.{Changed}
-use Rattle.chip.specs.declared.Mapping.{Mapping}
 use Rattle.chip.specs.Figures.{blockLen, sectors, erased}
-use Rattle.chip.specs.Blocks.{isFree, noBlock, blockAt, numberAt, freeAt, withBlock, lenOf}
-use Rattle.chip.specs.Fits.{Apart}
+use Rattle.mapping.specs.declared.Block.{Block}
+use Rattle.mapping.specs.declared.Condition.the-variants.{Changed}
+use Rattle.mapping.specs.declared.Mapping.{Mapping}
+use Rattle.mapping.specs.Blocks.{isFree, noBlock, blockAt, numberAt, freeAt, withBlock, lenOf}
+use Rattle.mapping.specs.Fits.{Apart}
 use Rattle.save.specs.Save.{byteAt, saveBytes}
 use Rattle.save.specs.Visits.{State, firstSector, endSector, visitedBlock, partFrom, partEnd, visit}
 use Rattle.save.proofs.ByBlocks.{length-save, save-at}

@@ -17,19 +17,19 @@ use Rattle.lists.proofs.Splice.{splice-nil}
 use Rattle.lists.proofs.Tests.{and-both}
 use Rattle.lists.proofs.Windows.{length-window, getD-window, window-ext}
 use Rattle.crc16.specs.Crc.{crc16, ticketOf}
-use Rattle.chip.specs.declared.Answer.the-variants.{Accepted}
-use Rattle.chip.specs.declared.Block.{Block}
 use Rattle.chip.specs.declared.Chip.{Chip}
 use Rattle.chip.specs.declared.ChipOf.the-variants.{Known}
-use Rattle.chip.specs.declared.Condition.{Condition}
-use Rattle.chip.specs.declared.Condition.the-variants.{Free, Clean, Changed}
-use Rattle.chip.specs.declared.Mapping.{Mapping}
 use Rattle.chip.specs.Figures.{layoutOf, virtuals, reserved, blockLen, sectorLen, sectors, saveLen, fromLen, byChip}
-use Rattle.chip.specs.Blocks.{isFree, blockAt, numberAt, lenOf}
-use Rattle.chip.specs.Fits.{eachOnce, reservedFree, fitsOwn, fits, Apart}
-use Rattle.chip.specs.Fits.Laws.{own-known, fits-is}
 use Rattle.chip.proofs.Layouts.{sound, from-is}
-use Rattle.chip.proofs.Onto.{apart-once}
+use Rattle.mapping.specs.declared.Answer.the-variants.{Accepted}
+use Rattle.mapping.specs.declared.Block.{Block}
+use Rattle.mapping.specs.declared.Condition.{Condition}
+use Rattle.mapping.specs.declared.Condition.the-variants.{Free, Clean, Changed}
+use Rattle.mapping.specs.declared.Mapping.{Mapping}
+use Rattle.mapping.specs.Blocks.{isFree, blockAt, numberAt, lenOf}
+use Rattle.mapping.specs.Fits.{eachOnce, reservedFree, fitsOwn, fits, Apart}
+use Rattle.mapping.specs.Fits.Laws.{own-known, fits-is}
+use Rattle.mapping.proofs.Onto.{apart-once}
 use Rattle.tickets.specs.Tickets.{sectorPlace, ticketIn}
 use Rattle.tickets.proofs.Fitting.{fits-len, fits-apart, fits-reserved, fits-save, fits-lies}
 use Rattle.save.specs.Save.{saveBytes}

@@ -7,16 +7,16 @@ use Prim.Native.Nat.{ℕ, _+_, _<_, _≤_}
 use lib.ListN.{length, getD, take}
 use Rattle.lists.specs.Words.{splice, rep}
 use Rattle.crc16.specs.Crc.{crc16, ticketOf}
-use Rattle.chip.specs.declared.Answer.the-variants.{Accepted, CopiesDiffer, BadEntry, OutOfRange, CountTooHigh}
 use Rattle.chip.specs.declared.Chip.{Chip}
 use Rattle.chip.specs.declared.Chip.the-variants.{Kib128, Mib1}
-use Rattle.chip.specs.declared.Condition.the-variants.{Free, Clean, Changed}
-use Rattle.chip.specs.declared.Mapping.{Mapping}
-use Rattle.chip.specs.declared.Outcome.{Outcome}
 use Rattle.chip.specs.Figures.{Layout, layoutOf, virtuals, reserved, blockLen, sectors, imageLen, erased, inUseBit, journalAt, slotLen}
-use Rattle.chip.specs.Blocks.{blockOf, blockAt, numberAt, countAt, freeAt, withBlock}
-use Rattle.chip.specs.Fits.{fits, reservedFree}
-use Rattle.chip.specs.Outcomes.{refused}
+use Rattle.mapping.specs.declared.Answer.the-variants.{Accepted, CopiesDiffer, BadEntry, OutOfRange, CountTooHigh}
+use Rattle.mapping.specs.declared.Condition.the-variants.{Free, Clean, Changed}
+use Rattle.mapping.specs.declared.Mapping.{Mapping}
+use Rattle.mapping.specs.declared.Outcome.{Outcome}
+use Rattle.mapping.specs.Blocks.{blockOf, blockAt, numberAt, countAt, freeAt, withBlock}
+use Rattle.mapping.specs.Fits.{fits, reservedFree}
+use Rattle.mapping.specs.Outcomes.{refused}
 use Rattle.block_map.specs.Items.{itemAt, decoded}
 use Rattle.block_map.specs.Put.{fresh, formatted, putMap}
 use Rattle.journal.specs.Entries.{twins}

@@ -6,16 +6,16 @@ use mathlib.Core.Bool.{true}
 use mathlib.Core.List.{List}
 use Prim.Native.Nat.{ℕ, _<_, _≤_}
 use lib.ListN.{length, take, drop, getD}
-use Rattle.chip.specs.declared.Answer.the-variants.{Accepted}
 use Rattle.chip.specs.declared.Chip.{Chip}
 use Rattle.chip.specs.declared.ChipOf.the-variants.{Known}
-use Rattle.chip.specs.declared.Condition.the-variants.{Changed}
-use Rattle.chip.specs.declared.Mapping.{Mapping}
 use Rattle.chip.specs.Figures.{layoutOf, blockLen, virtuals, journalAt, erased, fromLen}
-use Rattle.chip.specs.Blocks.{blockAt}
-use Rattle.chip.specs.Fits.{fits}
-use Rattle.chip.specs.Answers.{highCountOn}
-use Rattle.chip.specs.Outcomes.{outcome}
+use Rattle.mapping.specs.declared.Answer.the-variants.{Accepted}
+use Rattle.mapping.specs.declared.Condition.the-variants.{Changed}
+use Rattle.mapping.specs.declared.Mapping.{Mapping}
+use Rattle.mapping.specs.Blocks.{blockAt}
+use Rattle.mapping.specs.Fits.{fits}
+use Rattle.mapping.specs.Answers.{highCountOn}
+use Rattle.mapping.specs.Outcomes.{outcome}
 use Rattle.save.specs.Save.{saveBytes}
 use Rattle.save.specs.Visits.{State}
 use Rattle.wear_leveling.specs.Open.{openOf}

@@ -5,14 +5,14 @@ use mathlib.Core.Bool.{true, false}
 use mathlib.Core.List.{List}
 use Prim.Native.Nat.{ℕ, _+_, _*_, _<_, _≤_}
 use lib.ListN.{length, getD}
-use Rattle.chip.specs.declared.Answer.the-variants.{Accepted}
 use Rattle.chip.specs.declared.Chip.{Chip}
 use Rattle.chip.specs.declared.ChipOf.the-variants.{Known}
-use Rattle.chip.specs.declared.Condition.the-variants.{Clean}
-use Rattle.chip.specs.Figures.{layoutOf, virtuals, sectors, fromLen}
-use Rattle.chip.specs.Blocks.{records, noBlock, blockAt, numberAt, freeAt}
-use Rattle.chip.specs.Fits.{fits}
-use Rattle.chip.specs.Outcomes.{outcome}
+use Rattle.chip.specs.Figures.{layoutOf, virtuals, sectors, fromLen, records}
+use Rattle.mapping.specs.declared.Answer.the-variants.{Accepted}
+use Rattle.mapping.specs.declared.Condition.the-variants.{Clean}
+use Rattle.mapping.specs.Blocks.{noBlock, blockAt, numberAt, freeAt}
+use Rattle.mapping.specs.Fits.{fits}
+use Rattle.mapping.specs.Outcomes.{outcome}
 use Rattle.tickets.specs.Tickets.{ticketIn}
 use Rattle.save.specs.Save.{saveBytes}
 use Rattle.save.specs.Visits.{State}

@@ -14,13 +14,13 @@ use Rattle.lists.proofs.Tests.{and-left, and-right, and-both}
 use Rattle.chip.specs.declared.Chip.{Chip}
 use Rattle.chip.specs.declared.ChipOf.{ChipOf}
 use Rattle.chip.specs.declared.ChipOf.the-variants.{Known, Unknown}
-use Rattle.chip.specs.declared.Mapping.{Mapping}
 use Rattle.chip.specs.Figures.{layoutOf, virtuals, blockLen, imageLen, saveLen, fromLen}
-use Rattle.chip.specs.Blocks.{lenOf}
-use Rattle.chip.specs.Fits.{eachOnce, reservedFree, fitsAs, fitsOwn, fits, Apart}
-use Rattle.chip.specs.Fits.Laws.{own-known, own-unknown, fits-is}
 use Rattle.chip.proofs.Layouts.{sound, from-is}
-use Rattle.chip.proofs.Onto.{once-apart, apart-once}
+use Rattle.mapping.specs.declared.Mapping.{Mapping}
+use Rattle.mapping.specs.Blocks.{lenOf}
+use Rattle.mapping.specs.Fits.{eachOnce, reservedFree, fitsAs, fitsOwn, fits, Apart}
+use Rattle.mapping.specs.Fits.Laws.{own-known, own-unknown, fits-is}
+use Rattle.mapping.proofs.Onto.{once-apart, apart-once}
 use Rattle.tickets.specs.Tickets.{Lies}
 
 -- an image of a chip's length has a block zero

@@ -3,9 +3,9 @@ use mathlib.Core.Path.{_≡_}
 use Prim.Native.Nat.{ℕ, _+_, _*_, _/_, _%_, _<_}
 use native.Mathlib.Omega.{arith}
 use lib.ListN.{getD}
-use Rattle.chip.specs.declared.Mapping.{Mapping}
 use Rattle.chip.specs.Figures.{sectors}
-use Rattle.chip.specs.Blocks.{blockAt}
+use Rattle.mapping.specs.declared.Mapping.{Mapping}
+use Rattle.mapping.specs.Blocks.{blockAt}
 use Rattle.tickets.specs.Tickets.{sectorFails, failsAt}
 
 pub fails-is

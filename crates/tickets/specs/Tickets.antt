@@ -8,18 +8,18 @@ use lib.Dec.{eqb}
 use lib.ListN.{length, getD, take, drop}
 use Rattle.lists.specs.Words.{pick}
 use Rattle.crc16.specs.Crc.{crc16, ticketOf}
-use Rattle.chip.specs.declared.Block.{Block}
 use Rattle.chip.specs.declared.Chip.{Chip}
 use Rattle.chip.specs.declared.ChipOf.the-variants.{Known}
-use Rattle.chip.specs.declared.Found.{Found}
-use Rattle.chip.specs.declared.Found.the-variants.{Nothing}
-use Rattle.chip.specs.declared.Mapping.{Mapping}
 use Rattle.chip.specs.Figures.{Layout, layoutOf, fromLen, virtuals, blockLen, sectorLen, sectors, byChip}
-use Rattle.chip.specs.Blocks.{isFree, blockAt, numberAt}
-use Rattle.chip.specs.Search.{firstOf}
-use Rattle.chip.specs.declared.Answer.the-variants.{Accepted, WrongLength, WrongTicket}
-use Rattle.chip.specs.declared.Outcome.{Outcome}
-use Rattle.chip.specs.Outcomes.{outcome, refused, unlessFound}
+use Rattle.mapping.specs.declared.Block.{Block}
+use Rattle.mapping.specs.declared.Found.{Found}
+use Rattle.mapping.specs.declared.Found.the-variants.{Nothing}
+use Rattle.mapping.specs.declared.Mapping.{Mapping}
+use Rattle.mapping.specs.Blocks.{isFree, blockAt, numberAt}
+use Rattle.mapping.specs.Search.{firstOf}
+use Rattle.mapping.specs.declared.Answer.the-variants.{Accepted, WrongLength, WrongTicket}
+use Rattle.mapping.specs.declared.Outcome.{Outcome}
+use Rattle.mapping.specs.Outcomes.{outcome, refused, unlessFound}
 
 -- where sector j of physical block n stands in an image
 abbrev pub sectorPlace : ℕ → ℕ → ℕ

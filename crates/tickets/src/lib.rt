@@ -4,14 +4,14 @@ ghost use Prim.Native.Nat.{_+_, _*_, _<_, _≤_};
 ghost use lib.ListN.{length};
 ghost use Rattle.chip.specs.Figures.{layoutOf, blockLen, sectors};
 ghost use Rattle.tickets.specs.Tickets.{sectorPlace, ticketIn, sectorFails, badTicket, ticketsOf, Lies, LiesIn};
-use chip::Answer;
-use chip::Block;
 use chip::Chip;
 use chip::ChipOf;
-use chip::Found;
-use chip::Mapping;
-use chip::Outcome;
-use chip::Physical;
+use mapping::Answer;
+use mapping::Block;
+use mapping::Found;
+use mapping::Mapping;
+use mapping::Outcome;
+use mapping::Physical;
 
 // Where sector j of a physical block stands in the image.
 pub fn sector_place(number: Physical, j: usize) -> usize

@@ -9,13 +9,13 @@ use borrow.Author.Tests.{leb-true}
 use lib.Dec.{leb}
 use lib.ListN.{length}
 use Rattle.lists.proofs.Tests.{and-left, and-right}
-use Rattle.chip.specs.declared.Answer.the-variants.{Accepted, DoesNotFit, OutOfRange}
-use Rattle.chip.specs.declared.Mapping.{Mapping}
-use Rattle.chip.specs.Answers.{inSave}
-use Rattle.chip.specs.Blocks.{lenOf, blank}
-use Rattle.chip.specs.Fits.{fits}
-use Rattle.chip.specs.Fits.Laws.{blank-unfit}
 use Rattle.chip.proofs.Layouts.{sound}
+use Rattle.mapping.specs.declared.Answer.the-variants.{Accepted, DoesNotFit, OutOfRange}
+use Rattle.mapping.specs.declared.Mapping.{Mapping}
+use Rattle.mapping.specs.Answers.{inSave}
+use Rattle.mapping.specs.Blocks.{lenOf, blank}
+use Rattle.mapping.specs.Fits.{fits}
+use Rattle.mapping.specs.Fits.Laws.{blank-unfit}
 use Rattle.tickets.proofs.Fitting.{Fitting, fitting, fits-lies}
 use Rattle.save.specs.Readable.{Readable}
 use Rattle.save.specs.Visits.{CanWrite}

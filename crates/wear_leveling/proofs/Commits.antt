@@ -11,17 +11,17 @@ use lib.ListN.{length, getD}
 use lib.Seq.{getD-drop}
 use Rattle.lists.proofs.Orders.{by-test}
 use Rattle.lists.proofs.Tabulate.{length-tabulate, getD-tabulate, tabulate-ext}
-use Rattle.chip.specs.declared.Answer.the-variants.{Accepted, DoesNotFit}
-use Rattle.chip.specs.declared.Block.{Block}
 use Rattle.chip.specs.declared.Chip.{Chip}
 use Rattle.chip.specs.declared.ChipOf.the-variants.{Known}
-use Rattle.chip.specs.declared.Condition.{Condition}
-use Rattle.chip.specs.declared.Condition.the-variants.{Free, Clean, Changed}
-use Rattle.chip.specs.declared.Mapping.{Mapping}
-use Rattle.chip.specs.Figures.{Layout, layoutOf, virtuals, blockLen, sectors, saveLen, reserved, fromLen}
-use Rattle.chip.specs.Blocks.{isFree, noBlock, records, blockAt, numberAt, freeAt, lenOf}
-use Rattle.chip.specs.Fits.{Apart, fits}
+use Rattle.chip.specs.Figures.{Layout, layoutOf, virtuals, blockLen, sectors, saveLen, reserved, fromLen, records}
 use Rattle.chip.proofs.Layouts.{sound}
+use Rattle.mapping.specs.declared.Answer.the-variants.{Accepted, DoesNotFit}
+use Rattle.mapping.specs.declared.Block.{Block}
+use Rattle.mapping.specs.declared.Condition.{Condition}
+use Rattle.mapping.specs.declared.Condition.the-variants.{Free, Clean, Changed}
+use Rattle.mapping.specs.declared.Mapping.{Mapping}
+use Rattle.mapping.specs.Blocks.{isFree, noBlock, blockAt, numberAt, freeAt, lenOf}
+use Rattle.mapping.specs.Fits.{Apart, fits}
 use Rattle.block_map.specs.Put.{putMap}
 use Rattle.block_map.proofs.RoundTrip.{put-length, put-behind}
 use Rattle.tickets.proofs.Fitting.{known-long, fits-len, fits-apart, fits-reserved, fits-save, fits-by}

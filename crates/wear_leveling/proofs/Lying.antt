@@ -4,14 +4,14 @@ use mathlib.Core.List.{List}
 use Prim.Native.Nat.{ℕ, _≤_}
 use lib.ListN.{length, take}
 use lib.Seq.{length-take-le}
-use Rattle.chip.specs.declared.Answer.the-variants.{Accepted}
 use Rattle.chip.specs.declared.Chip.{Chip}
 use Rattle.chip.specs.declared.ChipOf.the-variants.{Known}
-use Rattle.chip.specs.declared.Outcome.{Outcome}
 use Rattle.chip.specs.Figures.{layoutOf, blockLen, fromLen}
-use Rattle.chip.specs.Answers.{numberOf}
-use Rattle.chip.specs.Outcomes.{outcome}
-use Rattle.chip.proofs.Numbers.{zero-accepted}
+use Rattle.mapping.specs.declared.Answer.the-variants.{Accepted}
+use Rattle.mapping.specs.declared.Outcome.{Outcome}
+use Rattle.mapping.specs.Answers.{numberOf}
+use Rattle.mapping.specs.Outcomes.{outcome}
+use Rattle.mapping.proofs.Numbers.{zero-accepted}
 use Rattle.journal.specs.Steps.{steps1to6}
 use Rattle.journal.specs.Opened.{OpenedAs}
 use Rattle.journal.proofs.Accepted.{accepted-as}

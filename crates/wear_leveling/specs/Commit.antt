@@ -4,14 +4,14 @@ use mathlib.Core.List.{List}
 use Prim.Native.Nat.{ℕ}
 use lib.ListN.{length}
 use Rattle.lists.specs.Words.{pick}
-use Rattle.chip.specs.declared.Answer.{Answer}
-use Rattle.chip.specs.declared.Answer.the-variants.{Accepted, DoesNotFit, CountTooHigh}
-use Rattle.chip.specs.declared.Found.{Found}
-use Rattle.chip.specs.declared.Found.the-variants.{At, Nothing}
-use Rattle.chip.specs.declared.Mapping.{Mapping}
 use Rattle.chip.specs.Figures.{Layout, layoutOf, fromLen, byChip}
-use Rattle.chip.specs.Fits.{fits}
-use Rattle.chip.specs.Answers.{highCount}
+use Rattle.mapping.specs.declared.Answer.{Answer}
+use Rattle.mapping.specs.declared.Answer.the-variants.{Accepted, DoesNotFit, CountTooHigh}
+use Rattle.mapping.specs.declared.Found.{Found}
+use Rattle.mapping.specs.declared.Found.the-variants.{At, Nothing}
+use Rattle.mapping.specs.declared.Mapping.{Mapping}
+use Rattle.mapping.specs.Fits.{fits}
+use Rattle.mapping.specs.Answers.{highCount}
 use Rattle.block_map.specs.Put.{putMap}
 use Rattle.committing.specs.Committed.{committed}
 use Rattle.save.specs.Visits.{State}

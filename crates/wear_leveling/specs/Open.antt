@@ -4,9 +4,9 @@
 use mathlib.Core.List.{List}
 use Prim.Native.Nat.{ℕ}
 use lib.ListN.{length, take}
-use Rattle.chip.specs.declared.Outcome.{Outcome}
 use Rattle.chip.specs.Figures.{blockLen}
-use Rattle.chip.specs.Outcomes.{andThen}
+use Rattle.mapping.specs.declared.Outcome.{Outcome}
+use Rattle.mapping.specs.Outcomes.{andThen}
 use Rattle.journal.specs.Steps.{steps1to6}
 use Rattle.tickets.specs.Tickets.{ticketsOf}
 

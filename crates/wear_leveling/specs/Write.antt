@@ -3,7 +3,7 @@
 use mathlib.Core.List.{List}
 use Prim.Native.Nat.{ℕ}
 use lib.ListN.{length}
-use Rattle.chip.specs.declared.Mapping.{Mapping}
+use Rattle.mapping.specs.declared.Mapping.{Mapping}
 use Rattle.save.specs.Visits.{State, state, written}
 use Rattle.wear_leveling.specs.Read.{admission, ifAccepted}
 

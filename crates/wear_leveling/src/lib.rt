@@ -2,19 +2,19 @@
 // comes back by value. Each takes anything, and its contract determines answer, mapping, image and buffer, refused or not.
 ghost use mathlib.Core.Path.{_≡_};
 ghost use lib.ListN.{length};
-ghost use Rattle.chip.specs.Blocks.{lenOf};
-ghost use Rattle.chip.specs.Outcomes.{outcome};
+ghost use Rattle.mapping.specs.Blocks.{lenOf};
+ghost use Rattle.mapping.specs.Outcomes.{outcome};
 ghost use Rattle.wear_leveling.specs.Open.{openOf};
 ghost use Rattle.wear_leveling.specs.Read.{admission, readInto};
 ghost use Rattle.wear_leveling.specs.Write.{afterWrite};
 ghost use Rattle.wear_leveling.specs.Commit.{commitAnswer, afterCommit};
 ghost use Rattle.wear_leveling.specs.Format.{formatAnswer, afterFormat};
-use chip::Answer;
 use chip::Chip;
 use chip::ChipOf;
-use chip::Found;
-use chip::Mapping;
-use chip::Outcome;
+use mapping::Answer;
+use mapping::Found;
+use mapping::Mapping;
+use mapping::Outcome;
 
 // Opens an image of any length: accepted with the mapping to work with, or refused with the blank mapping and the step and
 // place that decided. Nothing is stored.
@@ -46,7 +46,7 @@ pub fn read(image: &[u8], m: Mapping, place: usize, buf: &mut [u8]) -> Outcome
             mapping: m,
         };
     }
-    if !chip::in_save(m.len(), place, buf.len()) {
+    if !mapping::in_save(m.len(), place, buf.len()) {
         return Outcome {
             answer: Answer::OutOfRange,
             mapping: m,
@@ -69,7 +69,7 @@ pub fn write(image: &mut [u8], m: Mapping, place: usize, bytes: &[u8]) -> Outcom
             mapping: m,
         };
     }
-    if !chip::in_save(m.len(), place, bytes.len()) {
+    if !mapping::in_save(m.len(), place, bytes.len()) {
         return Outcome {
             answer: Answer::OutOfRange,
             mapping: m,

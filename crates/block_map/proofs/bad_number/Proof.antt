@@ -5,11 +5,12 @@ use Prim.Native.Nat.{_≤_, _<_, _-_}
 use native.Mathlib.Omega.{arith}
 use borrow.Author.Needs.{needs}
 use Rattle.lists.specs.Words.{tabulate}
-use Rattle.chip.specs.Blocks.{records, numberAt}
-use Rattle.chip.specs.Search.{firstOf, firstFrom}
-use Rattle.chip.specs.Fits.{appeared, placed}
-use Rattle.chip.proofs.Searches.{first-stops, first-goes, first-ends}
-use Rattle.chip.proofs.Onto.{seen-none, seen-more}
+use Rattle.chip.specs.Figures.{records}
+use Rattle.mapping.specs.Blocks.{numberAt}
+use Rattle.mapping.specs.Search.{firstOf, firstFrom}
+use Rattle.mapping.specs.Fits.{appeared, placed}
+use Rattle.mapping.proofs.Searches.{first-stops, first-goes, first-ends}
+use Rattle.mapping.proofs.Onto.{seen-none, seen-more}
 use Rattle.block_map.specs.Items.{badNumber}
 use Rattle.block_map.proofs.Maps.{test-placed}
 use Rattle.block_map.proofs.bad_number.Statement.{statement}

@@ -5,8 +5,9 @@ use native.Mathlib.Omega.{arith}
 use borrow.Author.Needs.{needs}
 use Rattle.lists.proofs.Tabulate.{fill-none, fill-more}
 use Rattle.lists.specs.Words.{upTo, tabulate}
-use Rattle.chip.specs.Blocks.{blockOf, noBlock, records}
-use Rattle.chip.specs.declared.Condition.the-variants.{Free}
+use Rattle.chip.specs.Figures.{records}
+use Rattle.mapping.specs.Blocks.{blockOf, noBlock}
+use Rattle.mapping.specs.declared.Condition.the-variants.{Free}
 use Rattle.block_map.proofs.fresh_blocks.Statement.{statement}
 use Rattle.block_map.proofs.fresh_blocks.Tie as tie
 

@@ -5,8 +5,8 @@ use native.Mathlib.Omega.{arith}
 use borrow.Author.Needs.{needs}
 use Rattle.lists.specs.Words.{upTo, tabulate}
 use Rattle.lists.proofs.Tabulate.{fill-none, fill-more}
-use Rattle.chip.specs.Figures.{layoutOf}
-use Rattle.chip.specs.Blocks.{noBlock, records}
+use Rattle.chip.specs.Figures.{layoutOf, records}
+use Rattle.mapping.specs.Blocks.{noBlock}
 use Rattle.block_map.specs.Items.{itemBlock}
 use Rattle.block_map.proofs.load_blocks.Statement.{statement}
 use Rattle.block_map.proofs.load_blocks.Tie as tie

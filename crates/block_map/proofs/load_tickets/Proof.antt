@@ -6,8 +6,7 @@ use native.Mathlib.Omega.{arith}
 use borrow.Author.Needs.{needs}
 use Rattle.lists.specs.Words.{upTo, tabulate}
 use Rattle.lists.proofs.Tabulate.{tabulate-same, fill-none, fill-more}
-use Rattle.chip.specs.Figures.{layoutOf, sectors}
-use Rattle.chip.specs.Blocks.{records}
+use Rattle.chip.specs.Figures.{layoutOf, sectors, records}
 use Rattle.block_map.specs.Items.{itemTicket, ticketEntry}
 use Rattle.block_map.proofs.Maps.{no-tickets}
 use Rattle.block_map.proofs.load_tickets.Statement.{statement}

@@ -6,8 +6,7 @@ use native.Mathlib.Omega.{arith}
 use borrow.Author.Tests.{not-true, not-false}
 use borrow.Author.Needs.{needs}
 use lib.ListN.{length}
-use Rattle.chip.specs.Figures.{layoutOf, sectors}
-use Rattle.chip.specs.Blocks.{records}
+use Rattle.chip.specs.Figures.{layoutOf, sectors, records}
 use Rattle.block_map.proofs.Puts.{item-large, item-both}
 use Rattle.block_map.proofs.put_item.Statement.{statement}
 use Rattle.block_map.proofs.put_item.Tie as tie

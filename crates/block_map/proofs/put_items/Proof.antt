@@ -5,10 +5,9 @@ use native.Mathlib.Omega.{arith}
 use borrow.Author.Needs.{needs}
 use lib.ListN.{length}
 use Rattle.lists.proofs.Splice.{splice-nil}
-use Rattle.chip.specs.Figures.{sectors, layoutOf, headerLen}
-use Rattle.chip.specs.Blocks.{records}
-use Rattle.chip.proofs.Layouts.{sound}
 use Rattle.lists.specs.Words.{splice}
+use Rattle.chip.specs.Figures.{sectors, layoutOf, headerLen, records}
+use Rattle.chip.proofs.Layouts.{sound}
 use Rattle.block_map.specs.Put.{withItems, items}
 use Rattle.block_map.proofs.Puts.{items-more}
 use Rattle.block_map.proofs.put_items.Statement.{statement}

@@ -6,7 +6,8 @@ use borrow.Author.Needs.{needs}
 use lib.ListN.{length, getD, length-map}
 use Rattle.lists.specs.Words.{tabulate}
 use Rattle.lists.proofs.Tabulate.{front, front-none, front-next, front-more}
-use Rattle.chip.specs.Blocks.{noBlock, records}
+use Rattle.chip.specs.Figures.{records}
+use Rattle.mapping.specs.Blocks.{noBlock}
 use Rattle.committing.specs.Committed.{cleaned}
 use Rattle.committing.proofs.Renewed.{new-records}
 use Rattle.committing.proofs.clean_blocks.Statement.{statement}

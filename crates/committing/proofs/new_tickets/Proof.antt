@@ -7,8 +7,7 @@ use borrow.Author.Needs.{needs}
 use lib.ListN.{length, getD}
 use Rattle.lists.specs.Words.{tabulate}
 use Rattle.lists.proofs.Tabulate.{tabulate-list, front, front-none, front-next, front-more}
-use Rattle.chip.specs.Figures.{sectors}
-use Rattle.chip.specs.Blocks.{records}
+use Rattle.chip.specs.Figures.{sectors, records}
 use Rattle.committing.proofs.Renewed.{ticketOver, new-small, new-large}
 use Rattle.committing.proofs.new_tickets.Statement.{statement}
 use Rattle.committing.proofs.new_tickets.Tie as tie

@@ -5,7 +5,7 @@ use Prim.Native.Nat.{_≤_, _<_, _-_}
 use native.Mathlib.Omega.{arith}
 use borrow.Author.Needs.{needs}
 use lib.ListN.{length}
-use Rattle.chip.specs.Blocks.{records}
+use Rattle.chip.specs.Figures.{records}
 use Rattle.ffi.specs.Crossing.{blockFromC}
 use Rattle.ffi.proofs.Filled.{Filled, step, done}
 use Rattle.ffi.proofs.blocks_from_c.Statement.{statement}

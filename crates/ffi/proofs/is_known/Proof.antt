@@ -5,7 +5,7 @@ use native.Mathlib.Omega.{arith}
 use borrow.Author.Needs.{needs}
 use Rattle.lists.proofs.Tests.{all-more}
 use Rattle.lists.specs.Words.{all}
-use Rattle.chip.specs.Blocks.{records}
+use Rattle.chip.specs.Figures.{records}
 use Rattle.ffi.specs.Crossing.{knownAt, known}
 use Rattle.ffi.proofs.is_known.Statement.{statement}
 use Rattle.ffi.proofs.is_known.Tie as tie

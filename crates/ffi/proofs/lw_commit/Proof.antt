@@ -1,7 +1,7 @@
 -- `lw_commit` meets its contract: what `commit` ensures of the mapping that came in, on the way out. Assumes nothing.
 use mathlib.Core.Path.{ap, _∙_}
 use borrow.Author.Needs.{needs}
-use Rattle.chip.specs.declared.Outcome.{Outcome}
+use Rattle.mapping.specs.declared.Outcome.{Outcome}
 use Rattle.ffi.specs.Crossing.{outcomeC}
 use Rattle.ffi.proofs.lw_commit.Statement.{statement}
 use Rattle.ffi.proofs.lw_commit.Tie as tie

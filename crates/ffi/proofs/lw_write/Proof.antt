@@ -1,7 +1,7 @@
 -- `lw_write` meets its contract: what `write` ensures of the mapping that came in, on the way out. Assumes nothing.
 use mathlib.Core.Path.{ap, _∙_}
 use borrow.Author.Needs.{needs}
-use Rattle.chip.specs.declared.Outcome.{Outcome}
+use Rattle.mapping.specs.declared.Outcome.{Outcome}
 use Rattle.ffi.specs.Crossing.{outcomeC}
 use Rattle.ffi.proofs.lw_write.Statement.{statement}
 use Rattle.ffi.proofs.lw_write.Tie as tie

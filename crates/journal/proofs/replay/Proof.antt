@@ -6,8 +6,8 @@ use Prim.Native.Nat.{_≤_, _+_, _-_}
 use native.Mathlib.Omega.{arith}
 use borrow.Author.Tests.{not-true, not-false}
 use borrow.Author.Needs.{needs}
-use Rattle.chip.specs.declared.Mapping.{Mapping}
 use Rattle.chip.specs.Figures.{layoutOf}
+use Rattle.mapping.specs.declared.Mapping.{Mapping}
 use Rattle.journal.specs.Replay.{journalOf, journalFrom}
 use Rattle.journal.proofs.Slots.{slot-torn, slot-ends, slot-refused, slot-passed, slots-end, slot-part, applied-large, applied-small}
 use Rattle.journal.proofs.replay.Statement.{statement}

@@ -4,10 +4,10 @@ use mathlib.Core.Path.{refl, sym, _∙_, _≡_}
 use Prim.Native.Nat.{_≤_, _<_, _+_, _-_, _*_}
 use native.Mathlib.Omega.{arith}
 use borrow.Author.Needs.{needs}
-use Rattle.chip.specs.declared.Found.the-variants.{Nothing}
 use Rattle.chip.specs.Figures.{sectors}
-use Rattle.chip.specs.Blocks.{blockAt}
-use Rattle.chip.proofs.Searches.{Sought, sought-none, sought-at, sought-more, sought-hit, sought-end}
+use Rattle.mapping.specs.declared.Found.the-variants.{Nothing}
+use Rattle.mapping.specs.Blocks.{blockAt}
+use Rattle.mapping.proofs.Searches.{Sought, sought-none, sought-at, sought-more, sought-hit, sought-end}
 use Rattle.tickets.specs.Tickets.{ticketIn, failsAt, badTicket}
 use Rattle.tickets.proofs.Sectors.{fails-is}
 use Rattle.tickets.proofs.bad_ticket.Statement.{statement}

@@ -5,7 +5,7 @@ use Prim.Native.Nat.{_-_}
 use native.Mathlib.Omega.{arith}
 use borrow.Author.Needs.{needs}
 use lib.ListN.{length}
-use Rattle.chip.specs.Blocks.{withBlock}
+use Rattle.mapping.specs.Blocks.{withBlock}
 use Rattle.save.proofs.Parts.{going-store, going-number, going-parts}
 use Rattle.save.specs.Visits.{state}
 use Rattle.save.proofs.Visits.{can-short, Going, going-none, going-all}

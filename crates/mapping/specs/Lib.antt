@@ -1,0 +1,5 @@
+pub mod Blocks
+pub mod Search
+pub mod Fits
+pub mod Answers
+pub mod Outcomes
