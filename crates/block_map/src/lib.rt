@@ -188,11 +188,9 @@ fn put_tickets(image: &mut [u8], at: usize, tickets: &[u8], from: usize)
     requires { ⌜ (at + sectors ≤ length (now image)) × (from + sectors ≤ length (now tickets)) ⌝ }
     ensures { λ _. ⌜ now (image .exit) ≡ splice (now (image .entry)) at (take sectors (drop from (now (tickets .entry)))) ⌝ }
 {
-    let mut j: usize = 0;
-    while j < Chip::SECTORS {
-        image[at + j] = tickets[from + j];
-        j += 1;
-    }
+    let to = at + Chip::SECTORS;
+    let end = from + Chip::SECTORS;
+    bytes::copy(&tickets[from..end], &mut image[at..to]);
 }
 
 // Stores the item of block v, on a small chip with its tickets.

@@ -17,11 +17,8 @@ fn asked() -> bool {
 fn put(zero: &mut [u8], at: usize, entry: &[u8])
     requires { ⌜ at + length (now entry) ≤ length (now zero) ⌝ }
 {
-    let mut i: usize = 0;
-    while i < entry.len() {
-        zero[at + i] = entry[i];
-        i += 1;
-    }
+    let end = at + entry.len();
+    bytes::copy(entry, &mut zero[at..end]);
 }
 
 // Block zero: v 0, w 30, p 31, q 1, c 1, d 0 and eight tickets of zero, twice, in slot 0.

@@ -10,11 +10,9 @@ pub(crate) fn copy(dst: &mut [u8], at: usize, src: &[u8], from: usize, n: usize)
     requires { ⌜ (at + n ≤ length (now dst)) × (from + n ≤ length (now src)) ⌝ }
     ensures { λ _. ⌜ now (dst .exit) ≡ splice (now (dst .entry)) at (slice from (from + n) (now (src .entry))) ⌝ }
 {
-    let mut j: usize = 0;
-    while j < n {
-        dst[at + j] = src[from + j];
-        j += 1;
-    }
+    let to = at + n;
+    let end = from + n;
+    bytes::copy(&src[from..end], &mut dst[at..to]);
 }
 
 // The larger of two numbers.

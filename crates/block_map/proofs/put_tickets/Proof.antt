@@ -1,78 +1,63 @@
--- `put_tickets` meets its contract. The invariant: the first j tickets stand in the image, and nothing else has changed. Assumes nothing.
-use mathlib.Core.Path.{refl, sym, _∙_, _≡_}
-use Prim.Native.Nat.{_≤_, _<_, _-_}
+-- `put_tickets` meets its contract: the kit's `copy` stores a part of one slice over an equally long part of the other. Assumes
+-- nothing.
+use mathlib.Core.Path.{refl, ap, sym, _∙_}
 use native.Mathlib.Omega.{arith}
 use borrow.Author.Needs.{needs}
-use lib.ListN.{length-set, length-drop, length, take, drop}
-use lib.Seq.{getD-drop}
-use Rattle.lists.proofs.Splice.{splice-nil}
-use Rattle.lists.proofs.Stores.{taken-more}
 use Rattle.lists.specs.Words.{splice}
+use Rattle.lists.proofs.Stores.{part-copied}
+use Rattle.lists.proofs.Windows.{take-drop}
 use Rattle.chip.specs.Figures.{sectors}
 use Rattle.block_map.proofs.put_tickets.Statement.{statement}
 use Rattle.block_map.proofs.put_tickets.Tie as tie
 
-abbrev Inv-loop : tie.InvT-loop
-Inv-loop image₀ at tickets from j₀ image j = (j ≤ sectors) × (length image ≡ length image₀) × (image ≡ splice image₀ at (take j (drop from tickets)))
+add-to : tie.Need-add-to
+add-to c = search needs
 
-abbrev μ-loop : tie.MeasureT-loop
-μ-loop image₀ at tickets from j₀ image j = sectors - j
+add-end : tie.Need-add-end
+add-end c = search needs
 
-loop-holds : tie.Need-loop-holds Inv-loop μ-loop
-loop-holds c = (omega arith, refl, sym (splice-nil (c .args .image .now) (c .args .at) (omega arith)))
+sub-copy : tie.Need-sub-copy
+sub-copy c = search needs
 
-add-image : tie.Need-add-image Inv-loop μ-loop
-add-image c = search needs
+part-copy-start : tie.Need-part-copy-start
+part-copy-start c = search needs
 
-shared-slice-read-image : tie.Need-shared-slice-read-image Inv-loop μ-loop
-shared-slice-read-image c = search needs
+part-copy-end : tie.Need-part-copy-end
+part-copy-end c = search needs
 
-add-image-2 : tie.Need-add-image-2 Inv-loop μ-loop
-add-image-2 c = search needs
+sub-copy-2 : tie.Need-sub-copy-2
+sub-copy-2 c = search needs
 
-slice-write-image : tie.Need-slice-write-image Inv-loop μ-loop
-slice-write-image c = search needs
+part-copy-start-2 : tie.Need-part-copy-start-2
+part-copy-start-2 c = search needs
 
-add-j : tie.Need-add-j Inv-loop μ-loop
-add-j c = search needs
+part-copy-end-2 : tie.Need-part-copy-end-2
+part-copy-end-2 c = search needs
 
-loop-less : tie.Need-loop-less Inv-loop μ-loop
-loop-less c = search needs
+copy-requires : tie.Need-copy-requires
+copy-requires c κs = search needs
 
-loop-again : tie.Need-loop-again Inv-loop μ-loop
-loop-again c =
-    let l = c .before .before .loop in
-    let start = c .before .before .before in
-    let ts = drop (start .args .from) (start .args .tickets .now) in
-    let e : l .j < length ts = simp length-drop (omega arith) in (
-      omega arith,
-      simp length-set (omega arith),
-      rw (l .inv .2, ← getD-drop (start .args .from) (start .args .tickets .now) (l .j) 0)
-          (taken-more (start .args .image .now) (start .args .at) ts (l .j) 0 (omega arith) e),
-    )
-
-same-length : tie.Need-same-length Inv-loop μ-loop
+same-length : tie.Need-same-length
 same-length c = search needs
 
-returns : tie.Need-returns Inv-loop μ-loop
+returns : tie.Need-returns
 returns c =
-    let l = c .before .loop in
-    let e : l .j ≡ sectors = omega arith in
-    l .inv .2 ∙ rw e
+    let a = c .before .before .before .before .before .before .before .args in
+    part-copied (a .image .now) (a .tickets .now) _ (a .at) (a .from) sectors (omega arith) (omega arith) _ refl (c .before .before .copy .ensures .1)
+    ∙ ap (splice (a .image .now) (a .at)) (sym (take-drop (a .from) sectors (a .tickets .now)))
 
 pub put-tickets-spec : {M : Type 1} → statement M
 put-tickets-spec =
     tie.close
     (tie.spec
-    Inv-loop
-    μ-loop
-    loop-holds
-    add-image
-    shared-slice-read-image
-    add-image-2
-    slice-write-image
-    add-j
-    loop-less
-    loop-again
+    add-to
+    add-end
+    sub-copy
+    part-copy-start
+    part-copy-end
+    sub-copy-2
+    part-copy-start-2
+    part-copy-end-2
+    copy-requires
     same-length
     returns)

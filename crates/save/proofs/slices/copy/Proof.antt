@@ -1,73 +1,59 @@
--- `copy` meets its contract. The invariant: the first j bytes stand in dst, and nothing else has changed. Assumes nothing.
-use mathlib.Core.Path.{_≡_, refl}
-use Prim.Native.Nat.{_≤_, _+_, _-_}
+-- `copy` meets its contract: the kit's `copy` stores a part of one slice over an equally long part of the other. Assumes
+-- nothing.
+use mathlib.Core.Path.{refl}
 use native.Mathlib.Omega.{arith}
 use borrow.Author.Needs.{needs}
-use lib.ListN.{length, length-set}
-use lib.Seq.{slice}
-use Rattle.lists.proofs.Stores.{copied-none, copied-more}
-use Rattle.lists.specs.Words.{splice}
+use Rattle.lists.proofs.Stores.{part-copied}
 use Rattle.save.proofs.slices.copy.Statement.{statement}
 use Rattle.save.proofs.slices.copy.Tie as tie
 
-abbrev Inv-loop : tie.InvT-loop
-Inv-loop dst₀ at src from n j₀ dst j = (j ≤ n) × (length dst ≡ length dst₀) × (dst ≡ splice dst₀ at (slice from (from + j) src))
+add-to : tie.Need-add-to
+add-to c = search needs
 
-abbrev μ-loop : tie.MeasureT-loop
-μ-loop dst₀ at src from n j₀ dst j = n - j
+add-end : tie.Need-add-end
+add-end c = search needs
 
-loop-holds : tie.Need-loop-holds Inv-loop μ-loop
-loop-holds c = (omega arith, refl, copied-none (c .args .dst .now) (c .args .at) (c .args .from) (c .args .src .now) (omega arith))
+sub-copy : tie.Need-sub-copy
+sub-copy c = search needs
 
-add-dst : tie.Need-add-dst Inv-loop μ-loop
-add-dst c = search needs
+part-copy-start : tie.Need-part-copy-start
+part-copy-start c = search needs
 
-shared-slice-read-dst : tie.Need-shared-slice-read-dst Inv-loop μ-loop
-shared-slice-read-dst c = search needs
+part-copy-end : tie.Need-part-copy-end
+part-copy-end c = search needs
 
-add-dst-2 : tie.Need-add-dst-2 Inv-loop μ-loop
-add-dst-2 c = search needs
+sub-copy-2 : tie.Need-sub-copy-2
+sub-copy-2 c = search needs
 
-slice-write-dst : tie.Need-slice-write-dst Inv-loop μ-loop
-slice-write-dst c = search needs
+part-copy-start-2 : tie.Need-part-copy-start-2
+part-copy-start-2 c = search needs
 
-add-j : tie.Need-add-j Inv-loop μ-loop
-add-j c = search needs
+part-copy-end-2 : tie.Need-part-copy-end-2
+part-copy-end-2 c = search needs
 
-loop-less : tie.Need-loop-less Inv-loop μ-loop
-loop-less c = search needs
+copy-requires : tie.Need-copy-requires
+copy-requires c κs = search needs
 
-loop-again : tie.Need-loop-again Inv-loop μ-loop
-loop-again c =
-    let l = c .before .before .loop in
-    let a = c .before .before .before .args in (
-      omega arith,
-      simp length-set (omega arith),
-      rw (l .inv .2) (copied-more (a .dst .now) (a .at) (a .from) (a .src .now) (l .j) 0 (omega arith) (omega arith)),
-    )
-
-same-length : tie.Need-same-length Inv-loop μ-loop
+same-length : tie.Need-same-length
 same-length c = search needs
 
-returns : tie.Need-returns Inv-loop μ-loop
+returns : tie.Need-returns
 returns c =
-    let l = c .before .loop in
-    let e : l .j ≡ c .before .before .args .n = omega arith in
-    rw (← e) (l .inv .2)
+    let a = c .before .before .before .before .before .before .before .args in
+    part-copied (a .dst .now) (a .src .now) _ (a .at) (a .from) (a .n) (omega arith) (omega arith) _ refl (c .before .before .copy .ensures .1)
 
 pub copy-spec : {M : Type 1} → statement M
 copy-spec =
     tie.close
     (tie.spec
-    Inv-loop
-    μ-loop
-    loop-holds
-    add-dst
-    shared-slice-read-dst
-    add-dst-2
-    slice-write-dst
-    add-j
-    loop-less
-    loop-again
+    add-to
+    add-end
+    sub-copy
+    part-copy-start
+    part-copy-end
+    sub-copy-2
+    part-copy-start-2
+    part-copy-end-2
+    copy-requires
     same-length
     returns)
