@@ -1,11 +1,12 @@
-# make test:           everything, from nothing, ending in 'N passed, 0 failed'.
+# make test:           everything, from nothing, ending in 'N passed, 0 failed'; its log is target/test.log (tests/clock).
+# make check:          proves what has changed and runs the programs, without the must-fail edits; its log is target/check.log.
 # make run:            proves what the lister needs, and lists a sample.
 # make run IMAGE=file: the same, and lists that file.
-# Both leave target/bin/lister; what the prover says goes to target/run.log.
+# Both runs leave target/bin/lister; what the prover says goes to target/run.log.
 # make lib:            the static library that C links, with include/ladlewillow.h.
 # make compare:        port and original side by side, a million cases or twenty minutes; ORACLE_SRC names the original.
 # make speed:          the times of both.
-.PHONY: test run lib compare speed rt
+.PHONY: test check run lib compare speed rt
 export IMAGE
 
 rt:
@@ -13,6 +14,11 @@ rt:
 
 test:
 	@tests/all
+
+check: rt
+	@mkdir -p target
+	@bash -o pipefail -c "rt check 2>&1 | tee target/check.log | grep --line-buffered '^rt: '" || \
+	    { grep -E ': error|it is not proved' target/check.log | cut -c1-300 | head -n 40; exit 1; }
 
 run: rt
 	@mkdir -p target

@@ -31,6 +31,9 @@ pub enum Aim {
     FullJournal,
     /// (0) straight from `format`, with junk around.
     Formatted,
+    /// (0) the journal brings a count above 127, of a block that is first, between or last; a commit then gives 10 on
+    /// a large chip. A last one is the reserved block's, which is free.
+    HighCount(Spot),
     /// (1)
     Length,
     /// (2)

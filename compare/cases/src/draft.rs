@@ -1,5 +1,6 @@
 //! An image in the making: a map, and entries that hold.
 
+use crate::aims::Spot;
 use crate::paper::{self, Block, Chip, Mapping, BLANK, BLOCK, CLEAN, FREE, SLOT};
 use crate::rng::Rng;
 
@@ -96,8 +97,7 @@ impl Draft {
             None if w < pool && rng.one_in(3) => w,
             None => rng.below(pool),
         };
-        let (gives, takes) = (self.m.blocks[w], self.m.blocks[v]);
-        Some([v as u8, w as u8, gives.physical, takes.physical, gives.count + 1, takes.count])
+        Some(self.entry_between(v, w))
     }
 
     /// One more entry that holds, where the journal has room.
@@ -106,6 +106,17 @@ impl Draft {
             return;
         }
         let Some(entry) = self.entry(rng, pool, v) else { return };
+        self.take(rng, entry);
+    }
+
+    /// v, w, p, q, c, d of the entry that gives w's number to v. It holds where w is free and its count below 255.
+    pub fn entry_between(&self, v: usize, w: usize) -> [u8; 6] {
+        let (gives, takes) = (self.m.blocks[w], self.m.blocks[v]);
+        [v as u8, w as u8, gives.physical, takes.physical, gives.count + 1, takes.count]
+    }
+
+    /// Puts an entry that holds into the next slot, of which there is one, and does what it says.
+    pub fn take(&mut self, rng: &mut Rng, entry: [u8; 6]) {
         let [v, w, p, q, c, d] = entry.map(usize::from);
         // Tickets that this entry replaces no longer matter.
         if self.m.blocks[v].condition != FREE && !self.chip.large && rng.one_in(2) {
@@ -120,6 +131,26 @@ impl Draft {
         let tickets = self.tickets_for(rng, self.m.blocks[v]);
         self.tickets_at[v] = self.put_slot(entry, tickets) + 6;
         self.entries += 1;
+    }
+
+    /// A free block, whose count becomes the highest that a large chip's map can hold.
+    pub fn full_giver(&mut self, rng: &mut Rng) -> usize {
+        let free: Vec<usize> = (0..self.chip.v).filter(|i| self.m.blocks[*i].condition == FREE).collect();
+        let giver = rng.pick(&free);
+        self.m.blocks[giver].count = 127;
+        giver
+    }
+
+    /// The journal's first entries: one that gives a count of 128 to the block at this spot, and pairs that free that
+    /// block and put it in use again, one higher. At the last spot one more leaves the high count with the reserved
+    /// block, which is free.
+    pub fn raise(&mut self, rng: &mut Rng, spot: Spot, giver: usize) {
+        let reserved = self.chip.v - 1;
+        let v = if spot == Spot::Last { rng.below(reserved) } else { spot.among(rng, reserved) };
+        self.take(rng, self.entry_between(v, giver));
+        for _ in 0..2 * rng.below(4) + usize::from(spot == Spot::Last) {
+            self.take(rng, self.entry_between(v, reserved));
+        }
     }
 
     /// Both copies in the next slot. Gives the slot's place.

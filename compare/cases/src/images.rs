@@ -61,6 +61,8 @@ impl Draft {
             Aim::Copies(spot) | Aim::Entry(spot) | Aim::Reserved(spot) => Some(spot.among(rng, chip.slots)),
             Aim::ZeroCount => Some(rng.below(4)),
             Aim::FullJournal => Some(chip.slots),
+            // So many more after those that raise the count.
+            Aim::HighCount(_) => Some(rng.below(3)),
             _ => None,
         };
         let before = slot.unwrap_or_else(|| self.some_entries(rng));
@@ -74,7 +76,13 @@ impl Draft {
         if aim == Aim::Reserved(Spot::First) && rng.one_in(2) {
             self.m.blocks[chip.v - 1].condition = CLEAN;
         }
-        self.put_map(rng);
+        if let Aim::HighCount(spot) = aim {
+            let giver = self.full_giver(rng);
+            self.put_map(rng);
+            self.raise(rng, spot, giver);
+        } else {
+            self.put_map(rng);
+        }
         for _ in 0..before {
             self.put_entry(rng, pool, None);
         }
@@ -117,7 +125,9 @@ impl Draft {
             self.break_ticket(rng, spot);
         }
         // A later trouble must not hide an earlier one.
-        if rng.one_in(3) && !matches!(aim, Aim::Accepted | Aim::FullJournal | Aim::Ticket(_) | Aim::Damage) {
+        if rng.one_in(3)
+            && !matches!(aim, Aim::Accepted | Aim::FullJournal | Aim::HighCount(_) | Aim::Ticket(_) | Aim::Damage)
+        {
             let at = BLOCK + rng.below(chip.len - BLOCK);
             self.image[at] ^= rng.flip();
         }

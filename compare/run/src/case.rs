@@ -7,13 +7,13 @@ use crate::session::{self, Session};
 use crate::tally::Tally;
 use cases::aims::{Aim, Fault, Spot};
 use cases::images;
-use cases::paper::{self, Chip, Mapping, BLANK, BLOCK, CHIPS, FREE, OK, SECTOR, SLOT};
+use cases::paper::{self, Answer, Chip, Mapping, BLANK, BLOCK, CHIPS, FREE, OK, SECTOR, SLOT};
 use cases::rng::Rng;
 
 use Spot::{First, Last, Middle};
 
 /// The aims, taken in turn, so that a short run has them all.
-const AIMS: [Aim; 40] = [
+const AIMS: [Aim; 43] = [
     Aim::Accepted,
     Aim::Copies(First),
     Aim::Entry(First),
@@ -21,6 +21,7 @@ const AIMS: [Aim; 40] = [
     Aim::Ticket(First),
     Aim::Accepted,
     Aim::Physical(First),
+    Aim::HighCount(First),
     Aim::Accepted,
     Aim::MapSum(First),
     Aim::Reserved(First),
@@ -35,6 +36,7 @@ const AIMS: [Aim; 40] = [
     Aim::Accepted,
     Aim::Formatted,
     Aim::Physical(Middle),
+    Aim::HighCount(Middle),
     Aim::Accepted,
     Aim::Length,
     Aim::MapSum(Middle),
@@ -48,6 +50,7 @@ const AIMS: [Aim; 40] = [
     Aim::Ticket(Last),
     Aim::ZeroCount,
     Aim::Physical(Last),
+    Aim::HighCount(Last),
     Aim::Accepted,
     Aim::MapSum(Last),
     Aim::Damage,
@@ -102,7 +105,14 @@ impl Case {
         let Some(mut session) = opening.session else { return Ok(()) };
         self.note_shape(tally, &drawn.image);
         session.begin_tape()?;
-        for _ in 0..self.rng.below(8) {
+        session.keeps = self.rng.one_in(2);
+        if matches!(self.aim, Aim::HighCount(_)) && self.rng.one_in(2) {
+            let answer = self.commit(tally, &mut session)?;
+            tally.count(self.chip, &format!("commit {} straight after open", answer.number));
+        }
+        // An object that stays is to see several commits.
+        let most = if session.keeps { 12 } else { 8 };
+        for _ in 0..self.rng.below(most) {
             self.step(tally, &mut session)?;
         }
         self.commit(tally, &mut session)?;
@@ -185,7 +195,9 @@ impl Case {
                 let place = rng.below(save);
                 self.write(tally, session, place, 0)?;
             }
-            8 => self.commit(tally, session)?,
+            8 => {
+                self.commit(tally, session)?;
+            }
             9 => {
                 let (place, n) = forge::range_past_the_save(rng, save);
                 let m = session.m.clone();
@@ -216,15 +228,36 @@ impl Case {
         Ok(())
     }
 
-    fn commit(&mut self, tally: &mut Tally, session: &mut Session) -> Verdict {
+    fn commit(&mut self, tally: &mut Tally, session: &mut Session) -> Result<Answer, String> {
         self.trace.push("commit".to_string());
+        let high = session.m.blocks[..self.chip.v].iter().any(|block| block.count > 0x7F);
+        let written = session.written;
         let answer = session.commit()?;
         tally.answer(self.chip, "commit", answer);
         if answer == OK {
+            if high {
+                tally.count(self.chip, "commit 0 with a count above 127");
+            }
+            if session.keeps {
+                self.note_kept(tally, session.commits, written);
+            }
             self.trace.push("fresh open".to_string());
             session.fresh_open()?;
         }
-        Ok(())
+        Ok(answer)
+    }
+
+    /// Which commit of an object of the original's that stays this was, and whether there was something to record.
+    fn note_kept(&mut self, tally: &mut Tally, commits: usize, written: bool) {
+        let nth = match commits {
+            1 => "1",
+            2 => "2",
+            _ => "3 on",
+        };
+        tally.count(self.chip, &format!("kept object, commit {nth}"));
+        if written {
+            tally.count(self.chip, &format!("kept object, commit {nth}, written"));
+        }
     }
 
     /// Read and write with a range that 9 refuses.
@@ -285,8 +318,7 @@ impl Case {
         }
         self.trace.push("commit".to_string());
         let answer = pair.commit(len, &mut m)?;
-        let call = if answer.number == 10 { "commit" } else { "loose commit" };
-        tally.answer(self.chip, call, answer);
+        tally.answer(self.chip, "loose commit", answer);
         pair.open()?;
         Ok(())
     }

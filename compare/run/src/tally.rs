@@ -120,17 +120,23 @@ fn required() -> Vec<Key> {
                 "loose read 0",
                 "loose write 0",
                 "loose commit 0",
+                "kept object, commit 2, written",
+                "kept object, commit 3 on, written",
             ]
             .map(String::from),
         );
         let own: &[&str] = if chip.large {
-            &["accepted junk in the padding", "commit 10"]
+            &["accepted junk in the padding", "commit 10 straight after open"]
         } else {
-            &["accepted junk in free tickets", "forged: a number too high"]
+            &["accepted junk in free tickets", "forged: a number too high", "commit 0 with a count above 127"]
         };
         names.extend(own.iter().map(|name| name.to_string()));
+        // Of a mapping that an open gave, whose journal raised the count; and of a forged one.
         if chip.large {
-            names.extend(["first", "middle", "last"].map(|spot| format!("commit 10 {spot}")));
+            for call in ["commit", "loose commit"] {
+                names.push(format!("{call} 10"));
+                names.extend(["first", "middle", "last"].map(|spot| format!("{call} 10 {spot}")));
+            }
         }
         all.extend(names.into_iter().map(|name| (index_of(chip), name)));
     }

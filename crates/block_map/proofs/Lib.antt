@@ -1,6 +1,1 @@
 pub mod Maps
-pub mod Puts
-pub mod Frames
-pub mod Pairs
-pub mod RoundTrip
-pub mod Settled

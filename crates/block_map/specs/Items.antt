@@ -11,10 +11,10 @@ use Rattle.chip.specs.Figures.{Layout, virtuals, sectors, imageLen, headerLen, 
 use Rattle.mapping.specs.declared.Block.{Block}
 use Rattle.mapping.specs.declared.Condition.{Condition}
 use Rattle.mapping.specs.declared.Condition.the-variants.{Free, Clean}
-use Rattle.mapping.specs.declared.Found.{Found}
+use Rattle.answers.specs.declared.Found.{Found}
 use Rattle.mapping.specs.declared.Mapping.{Mapping}
 use Rattle.mapping.specs.Blocks.{blockOf, noBlock, mappingOf}
-use Rattle.mapping.specs.Search.{firstOf}
+use Rattle.answers.specs.Search.{firstOf}
 use Rattle.mapping.specs.Fits.{placed}
 
 -- "8 header bytes, then V items": where item i stands
@@ -22,13 +22,13 @@ abbrev pub itemAt : Layout → ℕ → ℕ
 itemAt l i = headerLen + i * itemLen l
 
 -- the in-use bit of an item's first byte
-abbrev pub conditionOf : ℕ → Condition
-conditionOf a = pick (leb inUseBit a) Clean Free
+abbrev pub itemCondition : ℕ → Condition
+itemCondition a = pick (leb inUseBit a) Clean Free
 
 -- small: "byte 0 is the in-use bit plus the physical number, byte 1 the count"; large: "byte 0 is the in-use bit plus a
 -- 7-bit count, byte 1 the physical number"
 unfoldable pub decoded : Layout → ℕ → ℕ → Block
-decoded l a b = pick (l .large) (blockOf b (a % inUseBit) (conditionOf a)) (blockOf (a % inUseBit) b (conditionOf a))
+decoded l a b = pick (l .large) (blockOf b (a % inUseBit) (itemCondition a)) (blockOf (a % inUseBit) b (itemCondition a))
 
 -- item i as a block's record
 unfoldable pub itemBlock : Layout → List ℕ → ℕ → Block

@@ -57,12 +57,16 @@ pub from-is : (n : ℕ) (k : Chip) → fromLen n ≡ Known k → n ≡ imageLen 
 unfolding fromLen
 from-is n k e = among-is n k chips e
 
--- less than a block is no chip's length
-pub from-short : (n : ℕ) → n < blockLen → fromLen n ≡ Unknown
+-- a length that is no chip's leads to none
+pub from-none : (n : ℕ) → ((k : Chip) → n ≡ imageLen (layoutOf k) → ⊥) → fromLen n ≡ Unknown
 unfolding fromLen
-from-short n h =
+from-none n h =
     rw (
-      ne-eqb n (imageLen (layoutOf Kib128)) (λ e. omega arith),
-      ne-eqb n (imageLen (layoutOf Kib512)) (λ e. omega arith),
-      ne-eqb n (imageLen (layoutOf Mib1)) (λ e. omega arith),
+      ne-eqb n (imageLen (layoutOf Kib128)) (h Kib128),
+      ne-eqb n (imageLen (layoutOf Kib512)) (h Kib512),
+      ne-eqb n (imageLen (layoutOf Mib1)) (h Mib1),
     )
+
+-- as one that is less than a block
+pub from-short : (n : ℕ) → n < blockLen → fromLen n ≡ Unknown
+from-short n h = from-none n (λ k e. omega (arith, sound k .some))

@@ -4,7 +4,7 @@ ghost use Prim.Native.Nat.{_+_, _*_, _<_, _≤_};
 ghost use lib.ListN.{length};
 ghost use Rattle.lists.specs.Words.{pick, tabulate};
 ghost use Rattle.chip.specs.Figures.{layoutOf, blockLen, sectors, records};
-ghost use Rattle.block_map.specs.Put.{putMap};
+ghost use Rattle.block_zero.specs.Put.{putMap};
 ghost use Rattle.tickets.specs.Tickets.{ticketIn, Lies};
 ghost use Rattle.committing.specs.Committed.{isChanged, cleanCondition, cleaned, newTicket, settledRecord, committed};
 use chip::Chip;
@@ -105,6 +105,6 @@ pub fn commit_on(image: &mut [u8], m: Mapping, kind: Chip) -> Mapping
     let tickets = new_tickets(image, m, kind);
     let blocks = clean_blocks(m, kind);
     let n = Mapping::new(m.image_len(), blocks, tickets);
-    block_map::put_map(image, kind, n);
+    block_zero::put_map(image, kind, n);
     n
 }

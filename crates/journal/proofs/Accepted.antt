@@ -16,15 +16,16 @@ use Rattle.chip.specs.declared.ChipOf.{ChipOf}
 use Rattle.chip.specs.declared.ChipOf.the-variants.{Known, Unknown}
 use Rattle.chip.specs.Figures.{Layout, layoutOf, reserved, sectors, blockLen, slotLen, slotCount, journalAt, fromLen, byChip}
 use Rattle.chip.proofs.Layouts.{Sound, sound, map-fits}
-use Rattle.mapping.specs.declared.Answer.{Answer}
-use Rattle.mapping.specs.declared.Answer.the-variants.{Accepted, WrongLength, WrongMapSum, BadNumber, CopiesDiffer, BadEntry, ReservedInUse, WrongTicket, DoesNotFit, OutOfRange, CountTooHigh}
-use Rattle.mapping.specs.declared.Found.{Found}
-use Rattle.mapping.specs.declared.Found.the-variants.{At, Nothing}
+use Rattle.answers.specs.declared.Answer.{Answer}
+use Rattle.answers.specs.declared.Answer.the-variants.{Accepted, WrongLength, WrongMapSum, BadNumber, CopiesDiffer, BadEntry, ReservedInUse}
+use Rattle.answers.specs.declared.Found.{Found}
+use Rattle.answers.specs.declared.Found.the-variants.{At, Nothing}
 use Rattle.mapping.specs.declared.Mapping.{Mapping}
 use Rattle.mapping.specs.declared.Outcome.{Outcome}
 use Rattle.mapping.specs.Fits.{eachOnce, reservedFree, fitsAs}
-use Rattle.mapping.specs.Answers.{numberOf}
+use Rattle.answers.specs.Answers.{numberOf}
 use Rattle.mapping.specs.Outcomes.{outcome, refused, andThen, unlessFound}
+use Rattle.answers.proofs.Numbers.{zero-accepted}
 use Rattle.mapping.proofs.Onto.{apart-once}
 use Rattle.block_map.specs.Items.{loaded, sumHolds, badNumber}
 use Rattle.journal.specs.declared.Entry.{Entry}
@@ -57,19 +58,6 @@ found-accepted Nothing a o m r e = (refl, e)
 torn-accepted : (f : Found) (m n : Mapping) → unlessTorn f m ≡ outcome Accepted n → m ≡ n
 torn-accepted (At k) m n e = absurd (not-refused (CopiesDiffer k) n (λ d. omega arith) e)
 torn-accepted Nothing m n e = ap (λ (o : Outcome). o .mapping) e
-
-zero-accepted : (a : Answer) → numberOf a ≡ 0 → a ≡ Accepted
-zero-accepted Accepted e = refl
-zero-accepted WrongLength e = absurd (omega arith)
-zero-accepted WrongMapSum e = absurd (omega arith)
-zero-accepted (BadNumber block) e = absurd (omega arith)
-zero-accepted (CopiesDiffer slot) e = absurd (omega arith)
-zero-accepted (BadEntry slot) e = absurd (omega arith)
-zero-accepted (ReservedInUse block) e = absurd (omega arith)
-zero-accepted (WrongTicket sector) e = absurd (omega arith)
-zero-accepted DoesNotFit e = absurd (omega arith)
-zero-accepted OutOfRange e = absurd (omega arith)
-zero-accepted (CountTooHigh block) e = absurd (omega arith)
 
 then-accepted
     : (o : Outcome) (next : Mapping → Outcome) (m : Mapping) → andThen o next ≡ outcome Accepted m

@@ -83,15 +83,38 @@ record Allowed (l : Layout) (a b : Block) (e : Entry) : Type 0 where
   v-number : a .physical .0 ≡ e .q .0
   w-number : b .physical .0 ≡ e .p .0
 
--- four parts of its test, which has nine
-nine
-    : (a b c d f g h i j : Bool) → ((a && b) && (c && d) && (f && g) && h && (i && j)) ≡ true
-    → (a ≡ true) × (b ≡ true) × (f ≡ true) × (g ≡ true)
+-- the nine parts of its test
+pub record Nine (a b c d f g h i j : Bool) : Type 0 where
+  pub first : a ≡ true
+  pub second : b ≡ true
+  pub third : c ≡ true
+  pub fourth : d ≡ true
+  pub fifth : f ≡ true
+  pub sixth : g ≡ true
+  pub seventh : h ≡ true
+  pub eighth : i ≡ true
+  pub ninth : j ≡ true
+
+pub nine : (a b c d f g h i j : Bool) → ((a && b) && (c && d) && (f && g) && h && (i && j)) ≡ true → Nine a b c d f g h i j
 nine a b c d f g h i j e =
-    let n = and-left _ h (and-left _ (i && j) e) in
-    let k = and-left (a && b) (c && d) (and-left _ (f && g) n) in
+    let m = and-left ((a && b) && (c && d) && (f && g) && h) (i && j) e in
+    let n = and-left ((a && b) && (c && d) && (f && g)) h m in
+    let k = and-left ((a && b) && (c && d)) (f && g) n in
     let r = and-right ((a && b) && (c && d)) (f && g) n in
-    (and-left a b k, and-right a b k, and-left f g r, and-right f g r)
+    let x = and-left (a && b) (c && d) k in
+    let y = and-right (a && b) (c && d) k in
+    let z = and-right ((a && b) && (c && d) && (f && g) && h) (i && j) e in
+    record {
+      first = and-left a b x;
+      second = and-right a b x;
+      third = and-left c d y;
+      fourth = and-right c d y;
+      fifth = and-left f g r;
+      sixth = and-right f g r;
+      seventh = and-right ((a && b) && (c && d) && (f && g)) h m;
+      eighth = and-left i j z;
+      ninth = and-right i j z;
+    }
 
 allowed-facts : (l : Layout) (a b : Block) (e : Entry) → allowed l a b e ≡ true → Allowed l a b e
 unfolding allowed
@@ -100,10 +123,10 @@ allowed-facts l a b e ok =
     (inside (l .p) (e .q .0)) (eqb (a .physical .0) (e .q .0)) (eqb (b .physical .0) (e .p .0))
     (isFree (b .condition)) (eqb (a .count) (e .d)) (countBefore (b .count) (e .c)) ok in
     record {
-      v-below = ltb-true _ _ (t .0);
-      w-below = ltb-true _ _ (t .1);
-      v-number = eqb-true _ _ (t .2);
-      w-number = eqb-true _ _ (t .3);
+      v-below = ltb-true _ _ (t .first);
+      w-below = ltb-true _ _ (t .second);
+      v-number = eqb-true _ _ (t .fifth);
+      w-number = eqb-true _ _ (t .sixth);
     }
 
 -- a record that is there has a number, so that V is at most 256

@@ -1,6 +1,7 @@
 pub mod Counts
 pub mod Copies
 pub mod Slots
+pub mod Turns
 pub mod Relational
 pub mod Loaded
 pub mod Applied

@@ -17,13 +17,13 @@ use Rattle.chip.specs.Figures.{Layout, virtuals, sectors, inUseBit, records}
 use Rattle.chip.proofs.Layouts.{Sound}
 use Rattle.mapping.specs.declared.Block.{Block}
 use Rattle.mapping.specs.declared.Condition.the-variants.{Free, Clean, Changed}
-use Rattle.mapping.specs.declared.Found.the-variants.{Nothing}
+use Rattle.answers.specs.declared.Found.the-variants.{Nothing}
 use Rattle.mapping.specs.declared.Mapping.{Mapping}
 use Rattle.mapping.specs.Blocks.{isFree, noBlock, blockAt}
 use Rattle.mapping.specs.Fits.{placed, eachOnce}
-use Rattle.mapping.proofs.Searches.{first-none}
+use Rattle.answers.proofs.Searches.{first-none}
 use Rattle.mapping.proofs.Onto.{once-apart}
-use Rattle.block_map.specs.Items.{itemAt, conditionOf, decoded, itemBlock, itemTicket, blockEntry, ticketEntry, loaded, badNumber}
+use Rattle.block_map.specs.Items.{itemAt, itemCondition, decoded, itemBlock, itemTicket, blockEntry, ticketEntry, loaded, badNumber}
 use Rattle.block_map.proofs.Maps.{no-tickets}
 use Rattle.journal.specs.Opened.{Opened}
 
@@ -35,7 +35,7 @@ none-once l m e =
     (λ v h. not-false _ (first-none (λ u. not (placed (l .p) m u)) 0 (virtuals l) e v (omega arith) (omega arith)))
 
 -- an item's condition is its in-use bit
-decoded-condition : (l : Layout) (a b : ℕ) → decoded l a b .condition ≡ conditionOf a
+decoded-condition : (l : Layout) (a b : ℕ) → decoded l a b .condition ≡ itemCondition a
 unfolding decoded
 decoded-condition l a b = by-test (l .large) (λ t. simp t) (λ t. simp t)
 

@@ -4,13 +4,13 @@
 use mathlib.Core.Path.{_≡_, sym, ap, _∙_}
 use mathlib.Core.Bool.{true, false}
 use mathlib.Core.List.{List}
-use Prim.Native.Nat.{ℕ, suc, _+_, _-_, _*_, _≤_, _<_}
+use Prim.Native.Nat.{ℕ, suc, _+_, _-_, _≤_, _<_}
 use native.Mathlib.Omega.{arith}
 use borrow.Author.Tests.{eq-eqb, ne-eqb}
-use lib.ListN.{getD, set, take, drop}
+use lib.ListN.{getD, set}
 use Rattle.lists.specs.Words.{rep}
-use Rattle.chip.specs.Figures.{Layout, sectors, erased, slotLen, journalAt}
-use Rattle.mapping.specs.declared.Answer.the-variants.{Accepted, CopiesDiffer, BadEntry}
+use Rattle.chip.specs.Figures.{Layout, sectors, erased}
+use Rattle.answers.specs.declared.Answer.the-variants.{Accepted, CopiesDiffer, BadEntry}
 use Rattle.mapping.specs.declared.Block.{Block}
 use Rattle.mapping.specs.declared.Condition.the-variants.{Free, Clean}
 use Rattle.mapping.specs.declared.Mapping.{Mapping}
@@ -48,13 +48,6 @@ module _ (l : Layout) (m : Mapping) (z s : List ℕ) (k n : ℕ) (e : s ≡ slot
 pub slots-end : (l : Layout) (m : Mapping) (z : List ℕ) (k n : ℕ) → n ≤ k → outcome Accepted m ≡ journalFrom l m z k (n - k)
 unfolding entriesFrom tornFrom replay
 slots-end l m z k n h = let d : n - k ≡ 0 = omega arith in rw d
-
--- a slot, as the code lends it
-pub slot-part : (l : Layout) (z : List ℕ) (a k : ℕ) → a ≡ journalAt l
-    → take (a + k * slotLen + slotLen - (a + k * slotLen)) (drop (a + k * slotLen) z) ≡ slotAt l z k
-slot-part l z a k e =
-    let d : a + k * slotLen + slotLen - (a + k * slotLen) ≡ slotLen = omega arith in
-    rw (d, e)
 
 -- the records that are stored, as their functions gave them
 module _

@@ -13,9 +13,12 @@ use Rattle.mapping.specs.Blocks.{isFree, blockOf, blockAt, withBlock, withTicke
 use Rattle.mapping.specs.Fits.{inside}
 use Rattle.journal.specs.declared.Entry.{Entry}
 
--- "v, w, p, q, c, d and 8 tickets"
+-- "v, w, p, q, c, d and 8 tickets": the bytes before the tickets, and all
+abbrev pub entryHead : ℕ
+entryHead = 6
+
 abbrev pub entryLen : ℕ
-entryLen = 6 + sectors
+entryLen = entryHead + sectors
 
 -- slot k: "slots of 0x20 bytes, going up"
 abbrev pub slotAt : Layout → List ℕ → ℕ → List ℕ
@@ -39,7 +42,7 @@ entryOf s =
       q = record { 0 = getD s 3 0 };
       c = getD s 4 0;
       d = getD s 5 0;
-      tickets = take sectors (drop 6 s);
+      tickets = take sectors (drop entryHead s);
     }
 
 -- "c is at least 1; w's count is c − 1"

@@ -4,7 +4,7 @@ use mathlib.Core.List.{List}
 use Prim.Native.Nat.{ℕ}
 use Rattle.lists.specs.Words.{pick}
 use Rattle.chip.specs.Figures.{Layout, layoutOf, reserved, fromLen, byChip}
-use Rattle.mapping.specs.declared.Answer.the-variants.{Accepted, WrongLength, WrongMapSum, BadNumber, ReservedInUse}
+use Rattle.answers.specs.declared.Answer.the-variants.{Accepted, WrongLength, WrongMapSum, BadNumber, ReservedInUse}
 use Rattle.mapping.specs.declared.Mapping.{Mapping}
 use Rattle.mapping.specs.declared.Outcome.{Outcome}
 use Rattle.mapping.specs.Fits.{reservedFree}

@@ -7,15 +7,15 @@ ghost use Rattle.lists.specs.Words.{rep};
 ghost use Rattle.mapping.specs.declared.Condition.the-variants.{Free, Clean};
 ghost use Rattle.chip.specs.Figures.{layoutOf, blockLen, slotLen, sectors};
 ghost use Rattle.mapping.specs.Blocks.{blockOf, withTickets};
-ghost use Rattle.journal.specs.Entries.{twins, entryOf, countBefore, allowed};
+ghost use Rattle.journal.specs.Entries.{entryHead, twins, entryOf, countBefore, allowed};
 ghost use Rattle.journal.specs.Replay.{journalOf};
 ghost use Rattle.journal.specs.Steps.{step6, steps4to6, steps2to6, steps1to6};
+use answers::Answer;
+use answers::Found;
 use chip::Chip;
 use chip::ChipOf;
-use mapping::Answer;
 use mapping::Block;
 use mapping::Condition;
-use mapping::Found;
 use mapping::Mapping;
 use mapping::Outcome;
 use mapping::Physical;
@@ -32,8 +32,11 @@ pub struct Entry {
     pub tickets: [u8; Chip::SECTORS],
 }
 
+// The bytes of an entry before its tickets: v, w, p, q, c and d.
+const HEAD: usize = 6;
+
 // The bytes of an entry; a slot holds two copies of it.
-const ENTRY: usize = 6 + Chip::SECTORS;
+const ENTRY: usize = HEAD + Chip::SECTORS;
 
 // Step 4: whether the two copies of a slot are the same.
 fn copies_equal(slot: &[u8]) -> bool
@@ -52,12 +55,12 @@ fn copies_equal(slot: &[u8]) -> bool
 // The tickets of a slot's first copy.
 fn tickets_of(slot: &[u8]) -> [u8; Chip::SECTORS]
     requires { ⌜ length (now slot) ≡ slotLen ⌝ }
-    ensures { λ r. ⌜ r ≡ take sectors (drop 6 (now (slot .entry))) ⌝ }
+    ensures { λ r. ⌜ r ≡ take sectors (drop entryHead (now (slot .entry))) ⌝ }
 {
     let mut tickets = [0u8; Chip::SECTORS];
     let mut j: usize = 0;
     while j < Chip::SECTORS {
-        tickets[j] = slot[6 + j];
+        tickets[j] = slot[HEAD + j];
         j += 1;
     }
     tickets
@@ -157,8 +160,8 @@ fn replay(m: Mapping, kind: Chip, zero: &[u8]) -> Outcome
             return Outcome::accepted(n);
         }
         let e = entry_of(slot);
-        let v = e.v.0 as usize;
-        let w = e.w.0 as usize;
+        let v = e.v.at();
+        let w = e.w.at();
         if !is_allowed(kind, n.blocks[v], n.blocks[w], e) {
             return Outcome::refused(Answer::BadEntry(k));
         }

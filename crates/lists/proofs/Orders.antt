@@ -20,6 +20,11 @@ by-test false f g = g refl
 pub not-both : {t : Bool} → t ≡ true → t ≡ false → ⊥
 not-both p q = let z : _≡_ {A = ℕ} 0 1 = cc in omega arith
 
+-- a test that cannot be true is false
+pub test-false : (t : Bool) → (t ≡ true → ⊥) → t ≡ false
+test-false true h = absurd (h refl)
+test-false false h = refl
+
 -- two tests that follow from one another are equal
 pub bool-ext : (a b : Bool) → (a ≡ true → b ≡ true) → (b ≡ true → a ≡ true) → a ≡ b
 bool-ext true b f g = sym (f refl)

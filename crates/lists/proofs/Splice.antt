@@ -6,7 +6,7 @@ use Prim.Native.Nat.{ℕ, suc, _+_, _-_, _≤_, _<_}
 use native.Mathlib.Omega.{arith}
 use borrow.Rule.Slice.PartMut.{putMid}
 use lib.ListN.{length, take, drop, getD, set, length-append, length-take, length-drop, take-append-drop, List·getD-append, drop-of-length-le}
-use lib.Seq.{paste, getD-take, getD-drop, getD-append-add, ext-getD, length-take-le, take-at, drop-drop, set-split}
+use lib.Seq.{getD-take, getD-drop, getD-append-add, ext-getD, length-take-le, take-at, drop-drop, set-split}
 use Rattle.lists.specs.Words.{splice}
 use Rattle.lists.proofs.Orders.{split}
 
@@ -112,13 +112,6 @@ module _ {ℓ} {A : Type ℓ} where
   pub take-splice : (l : List A) (at : ℕ) (d : List A) → at ≤ length l → take at (splice l at d) ≡ take at l
   unfolding splice
   take-splice l at d h = take-at (take at l) (d ++ drop (at + length d) l) at (length-take-le at l h)
-
-  -- the kit's `paste` of a whole list is a splice
-  pub paste-splice : (l : List A) (at : ℕ) (s : List A) (n : ℕ) → n ≤ length s → paste l at s n ≡ splice l at (take n s)
-  unfolding splice
-  paste-splice l at s n h =
-      let e : length (take n s) ≡ n = length-take-le n s h in
-      rw e (append-assoc (take at l) (take n s) (drop (at + n) l))
 
 -- a part `&mut l[a..a + k]` that was lent came back as ys
 pub part-back : {A : Type 0} (l : List A) (a k : ℕ) (ys : List A) → length ys ≡ k → putMid a (a + k - a) l ys ≡ splice l a ys

@@ -1,7 +1,7 @@
 -- A test of each index, and of some index, turned into facts about the indices and back. Assumes nothing.
 use mathlib.Core.Path.{_≡_, refl}
 use mathlib.Core.Bool.{Bool, true, false, _&&_, _||_}
-use Prim.Native.Nat.{ℕ, zero, suc, _+_, _<_, _≤_}
+use Prim.Native.Nat.{ℕ, zero, suc, _+_, _<_}
 use native.Mathlib.Numerals.{add-one}
 use native.Mathlib.Decide.{ℕ-discrete}
 use native.Mathlib.Omega.{arith}
@@ -40,19 +40,10 @@ module _ (f : ℕ → Bool) where
   unfolding all
   all-more n t e = rw (e, add-one n)
 
-  -- a turn of a loop that counts, and the bound of what it counts
+  -- a turn of a loop that counts
   pub many-more : (n k a : ℕ) → k ≡ howMany f n → a ≡ pick (f n) 1 0 → k + a ≡ howMany f (n + 1)
   unfolding howMany
   many-more n k a e d = rw (e, d, add-one n)
-
-  pub many-below : (n : ℕ) → howMany f n ≤ n
-  unfolding howMany
-  many-below zero = omega arith
-  many-below (suc n) = go (f n) (many-below n)
-    where
-      go : (t : Bool) → howMany f n ≤ n → howMany f n + pick t 1 0 ≤ suc n
-      go true h = omega arith
-      go false h = omega arith
 
   -- the last index below n of which f holds
   pub last : ℕ → ℕ

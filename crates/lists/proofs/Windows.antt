@@ -2,14 +2,13 @@
 -- another: their elements, how they join, and what a splice leaves of them. Assumes nothing.
 use mathlib.Core.Path.{_≡_, refl, sym, ap, _∙_}
 use mathlib.Core.List.{List, [], _++_}
-use mathlib.Core.Logic.{_⊎_, inl, inr}
 use Prim.Native.Nat.{ℕ, min, _+_, _-_, _≤_, _<_}
 use native.Mathlib.Omega.{arith}
 use lib.ListN.{length, take, drop, getD, length-append, length-take, length-drop, take-append-drop, drop-of-length-le}
-use lib.Seq.{getD-take, getD-drop, ext-getD, take-take, take-nil, take-add, slice, length-slice, length-take-le, drop-append-le, drop-at}
+use lib.Seq.{getD-take, getD-drop, ext-getD, take-take, take-nil, take-add, slice, length-take-le, drop-append-le, drop-at}
 use Rattle.lists.specs.Words.{splice}
 use Rattle.lists.proofs.Orders.{split}
-use Rattle.lists.proofs.Splice.{length-splice, splice-intro, getD-splice-below, getD-splice-in, getD-splice-above, getD-splice-out}
+use Rattle.lists.proofs.Splice.{length-splice, splice-intro, getD-splice-below, getD-splice-in, getD-splice-above}
 
 module _ {ℓ} {A : Type ℓ} where
   pub length-window : (place n : ℕ) (l : List A) → place + n ≤ length l → length (take n (drop place l)) ≡ n
@@ -29,23 +28,9 @@ module _ {ℓ} {A : Type ℓ} where
   window-splice z l at d h =
       sym (window-ext z at (length d) (splice l at d) d (omega (arith, length-splice l at d h)) refl (λ i b. sym (getD-splice-in l at d i z h b)))
 
-  -- a window that the splice does not reach
-  pub window-apart : (z : A) (l : List A) (at : ℕ) (d : List A) (place n : ℕ) → at + length d ≤ length l → place + n ≤ length l
-      → (place + n ≤ at) ⊎ (at + length d ≤ place) → take n (drop place (splice l at d)) ≡ take n (drop place l)
-  window-apart z l at d place n h k o =
-      window-ext z place n l (take n (drop place (splice l at d))) k (length-window place n (splice l at d) (omega (arith, length-splice l at d h)))
-      (λ i b. getD-window place n (splice l at d) i z b ∙ getD-splice-out l at d (place + i) z h (λ p q. away i b p q o))
-    where
-      away : (i : ℕ) → i < n → at ≤ place + i → place + i < at + length d → (place + n ≤ at) ⊎ (at + length d ≤ place) → ⊥
-      away i b p q (inl u) = omega arith
-      away i b p q (inr u) = omega arith
-
   -- a front and what follows it up to t
   pub take-slice : (f t : ℕ) (l : List A) → f ≤ t → take f l ++ slice f t l ≡ take t l
   take-slice f t l h = ap (λ (r : List A). r ++ drop f (take t l)) (sym (take-take f t l h)) ∙ take-append-drop f (take t l)
-
-  pub getD-slice : (f t : ℕ) (l : List A) (i : ℕ) (z : A) → f + i < t → getD (slice f t l) i z ≡ getD l (f + i) z
-  getD-slice f t l i z h = getD-drop f (take t l) i z ∙ getD-take t l (f + i) z h
 
   pub slice-append : (f t u : ℕ) (l : List A) → f ≤ t → t ≤ u → u ≤ length l → slice f t l ++ slice t u l ≡ slice f u l
   slice-append f t u l h k b =
@@ -61,12 +46,6 @@ module _ {ℓ} {A : Type ℓ} where
           (λ h. drop-at (take place l) (take n (drop place l)) place (length-take-le place l h))
           (λ h. let z : drop place l ≡ [] = drop-of-length-le l {i = place} (omega arith) in
           rw (z, take-nil n) (drop-of-length-le (take place l ++ []) {i = place} (simp (length-append, length-take) (omega arith))))
-
-  -- a list that has the elements of a part is that part
-  pub slice-ext : (z : A) (f t : ℕ) (l r : List A) → t ≤ length l → length r ≡ t - f → ((i : ℕ) → i < t - f → getD r i z ≡ getD l (f + i) z) → r ≡ slice f t l
-  slice-ext z f t l r h e at =
-      let k : length (slice f t l) ≡ t - f = length-slice f t l h in
-      ext-getD z r (slice f t l) (e ∙ sym k) (λ i b. at i (omega arith) ∙ sym (getD-slice f t l i z (omega arith)))
 
   -- two lists of one length that agree below n, or from n on
   pub take-ext : (z : A) (n : ℕ) (l r : List A) → length l ≡ length r → ((i : ℕ) → i < n → getD l i z ≡ getD r i z) → take n l ≡ take n r

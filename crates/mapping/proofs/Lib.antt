@@ -1,3 +1,2 @@
-pub mod Searches
 pub mod Onto
-pub mod Numbers
+pub mod Fitted

@@ -92,13 +92,13 @@ module _ (m : Mapping) where
   -- ---- what the definition says of a layout with V = P − 1
 
   module _ (l : Layout) (some : 1 ≤ l .p) where
-    placed-inside : (v : ℕ) → placed (l .p) m v ≡ true → (1 ≤ numberAt m v) × (numberAt m v < l .p)
+    pub placed-inside : (v : ℕ) → placed (l .p) m v ≡ true → (1 ≤ numberAt m v) × (numberAt m v < l .p)
     unfolding placed
     placed-inside v e =
         let i = and-left (inside (l .p) (numberAt m v)) _ e in
         (leb-true _ _ (and-left _ _ i), ltb-true _ _ (and-right (leb 1 (numberAt m v)) _ i))
 
-    placed-new : (v u : ℕ) → placed (l .p) m v ≡ true → u < v → numberAt m u ≡ numberAt m v → ⊥
+    pub placed-new : (v u : ℕ) → placed (l .p) m v ≡ true → u < v → numberAt m u ≡ numberAt m v → ⊥
     unfolding placed
     placed-new v u e h d =
         not-both (hit-appeared v (numberAt m v) u h d)
@@ -118,26 +118,26 @@ module _ (m : Mapping) where
         at : (v : ℕ) → v < virtuals l → placed (l .p) m v ≡ true
         at v h = all-at (placed (l .p) m) (virtuals l) v e h
 
-    pub apart-once : Apart m (virtuals l) → eachOnce l m ≡ true
+    pub placed-by
+        : (v : ℕ) → 1 ≤ numberAt m v → numberAt m v < l .p → ((u : ℕ) → u < v → numberAt m u ≡ numberAt m v → ⊥)
+        → placed (l .p) m v ≡ true
     unfolding placed
+    placed-by v low high new =
+        and-both (inside (l .p) (numberAt m v)) (not (appeared m v (numberAt m v)))
+        (and-both (leb 1 (numberAt m v)) (ltb (numberAt m v) (l .p)) (le-leb 1 (numberAt m v) low) (lt-ltb (numberAt m v) (l .p) high))
+        (by-test (appeared m v (numberAt m v))
+        (λ t.
+        let u : ℕ = last (λ w. eqb (numberAt m w) (numberAt m v)) v in
+        let r : Hit (λ w. eqb (numberAt m w) (numberAt m v)) v u = appeared-hit v (numberAt m v) t in
+        absurd (new u (r .below) (eqb-true (numberAt m u) (numberAt m v) (r .holds))))
+        (λ t. rw t))
+
+    pub apart-once : Apart m (virtuals l) → eachOnce l m ≡ true
     apart-once a =
         all-by (placed (l .p) m) (virtuals l)
         (λ v h.
-        and-both (inside (l .p) (numberAt m v)) (not (appeared m v (numberAt m v)))
-        (and-both (leb 1 (numberAt m v)) (ltb (numberAt m v) (l .p)) (le-leb 1 (numberAt m v) (a .low v h))
-        (lt-ltb (numberAt m v) (l .p) (omega (arith, a .high v h))))
-        (fresh v h))
-      where
-        fresh : (v : ℕ) → v < virtuals l → not (appeared m v (numberAt m v)) ≡ true
-        fresh v h =
-            by-test (appeared m v (numberAt m v))
-            (λ t.
-            let u : ℕ = last (λ w. eqb (numberAt m w) (numberAt m v)) v in
-            let r : Hit (λ w. eqb (numberAt m w) (numberAt m v)) v u = appeared-hit v (numberAt m v) t in
-            let b : u < v = r .below in
-            let d : u ≡ v = a .apart u v (omega arith) h (eqb-true (numberAt m u) (numberAt m v) (r .holds)) in
-            absurd (omega arith))
-            (λ t. rw t)
+        placed-by v (a .low v h) (omega (arith, a .high v h))
+        (λ u b e. let d : u ≡ v = a .apart u v (omega arith) h e in omega arith))
 
     -- the test on the flags is the definition
     pub flags-once

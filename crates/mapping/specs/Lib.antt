@@ -1,5 +1,5 @@
 pub mod Blocks
-pub mod Search
 pub mod Fits
-pub mod Answers
+pub mod Fitted
+pub mod Limits
 pub mod Outcomes

@@ -2,13 +2,13 @@
 use Prim.Native.Nat.{ℕ}
 use lib.Dec.{eqb}
 use Rattle.lists.specs.Words.{pick}
-use Rattle.mapping.specs.declared.Answer.{Answer}
-use Rattle.mapping.specs.declared.Found.{Found}
-use Rattle.mapping.specs.declared.Found.the-variants.{At, Nothing}
+use Rattle.answers.specs.declared.Answer.{Answer}
+use Rattle.answers.specs.declared.Found.{Found}
+use Rattle.answers.specs.declared.Found.the-variants.{At, Nothing}
 use Rattle.mapping.specs.declared.Mapping.{Mapping}
 use Rattle.mapping.specs.declared.Outcome.{Outcome}
 use Rattle.mapping.specs.Blocks.{blank}
-use Rattle.mapping.specs.Answers.{numberOf}
+use Rattle.answers.specs.Answers.{numberOf}
 
 -- an answer with its mapping
 abbrev pub outcome : Answer → Mapping → Outcome

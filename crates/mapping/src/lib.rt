@@ -1,21 +1,33 @@
-// The mapping that calls hand about by value, the answers, and the tests behind answers 8 to 10.
+// The mapping that calls hand about by value, and the tests behind answers 8 to 10.
 //
 // Everything here takes any argument. Nobody outside this crate writes a `Mapping` out by its fields (`len` is private):
-// `blank`, `new` and the two setters make one.
+// `blank`, `new` and `with_tickets` make one.
 ghost use mathlib.Core.Path.{_≡_};
-ghost use Prim.Native.Nat.{_≤_};
+ghost use Prim.Native.Nat.{_≤_, _<_};
 ghost use mathlib.Core.Bool.{not};
 ghost use Rattle.lists.specs.Words.{pick, tabulate, howMany};
 ghost use Rattle.chip.specs.Figures.{layoutOf, virtuals, records};
-ghost use Rattle.mapping.specs.Blocks.{isFree, freeAt, blank, mappingOf, withBlock, withTickets, lenOf, inUseOf};
+ghost use Rattle.mapping.specs.Blocks.{isFree, freeAt, blank, mappingOf, withTickets, lenOf, inUseOf};
 ghost use Rattle.mapping.specs.Fits.{appeared, eachOnce, reservedFree, fitsOwn, fits};
-ghost use Rattle.mapping.specs.Answers.{numberOf, answerPlace, inSave, highCountOn, highCount};
+ghost use Rattle.mapping.specs.Limits.{inSave, highCountOn, highCount};
 ghost use Rattle.mapping.specs.Outcomes.{outcome, refused};
+use answers::Answer;
+use answers::Found;
 use chip::Chip;
 use chip::ChipOf;
 
 // The number of a virtual block.
 pub struct Virtual(pub u8);
+
+impl Virtual {
+    // Where the block's record stands in a mapping. A physical number has no such way to a record.
+    pub fn at(self) -> usize
+        ensures { λ r. ⌜ r ≡ self .0 ⌝ }
+        ensures within { λ r. ⌜ r < records ⌝ }
+    {
+        self.0 as usize
+    }
+}
 
 // The number of a physical block.
 pub struct Physical(pub u8);
@@ -68,12 +80,6 @@ pub struct Mapping {
     pub tickets: [u8; Chip::RECORDS * Chip::SECTORS],
 }
 
-// What a search finds.
-pub enum Found {
-    At(usize),
-    Nothing,
-}
-
 impl Mapping {
     // What a refused open hands back: length 0, all numbers zero, all blocks free.
     pub fn blank() -> Mapping
@@ -113,20 +119,11 @@ impl Mapping {
         self.len
     }
 
-    // Block v becomes b.
-    pub fn with_block(mut self, v: Virtual, b: Block) -> Mapping
-        ensures { λ r. ⌜ r ≡ withBlock self (v .0) b ⌝ }
-    {
-        let at = v.0 as usize;
-        self.blocks[at] = b;
-        self
-    }
-
     // The tickets of block v become t.
     pub fn with_tickets(mut self, v: Virtual, t: [u8; Chip::SECTORS]) -> Mapping
         ensures { λ r. ⌜ r ≡ withTickets self (v .0) t ⌝ }
     {
-        let at = v.0 as usize * Chip::SECTORS;
+        let at = v.at() * Chip::SECTORS;
         let mut j: usize = 0;
         while j < Chip::SECTORS {
             self.tickets[at + j] = t[j];
@@ -145,6 +142,7 @@ impl Mapping {
             ChipOf::Unknown => 0,
         }
     }
+
     // The number of in-use blocks among the first V of this chip.
     fn in_use_on(self, kind: Chip) -> usize
         ensures { λ r. ⌜ r ≡ howMany (λ v. not (freeAt self v)) (virtuals (layoutOf kind)) ⌝ }
@@ -207,8 +205,8 @@ impl Mapping {
     pub fn reserved_free(self, kind: Chip) -> bool
         ensures { λ r. ⌜ r ≡ reservedFree (layoutOf kind) self ⌝ }
     {
-        let last = Chip::virtual_blocks(kind) - 1;
-        let b = self.blocks[last];
+        let last = Virtual((Chip::virtual_blocks(kind) - 1) as u8);
+        let b = self.blocks[last.at()];
         let condition = b.condition;
         condition.is_free()
     }
@@ -271,61 +269,6 @@ pub fn in_save(save_len: usize, place: usize, length: usize) -> bool
         return false;
     }
     length <= save_len - place
-}
-
-// How a call ended; each refusal with the place that it names.
-pub enum Answer {
-    Accepted,
-    WrongLength,
-    WrongMapSum,
-    BadNumber(usize),
-    CopiesDiffer(usize),
-    BadEntry(usize),
-    ReservedInUse(usize),
-    WrongTicket(usize),
-    DoesNotFit,
-    OutOfRange,
-    CountTooHigh(usize),
-}
-
-impl Answer {
-    // The number that is handed back, 0 to 10.
-    pub fn number(self) -> u8
-        ensures { λ r. ⌜ r ≡ numberOf self ⌝ }
-    {
-        match self {
-            Answer::Accepted => 0,
-            Answer::WrongLength => 1,
-            Answer::WrongMapSum => 2,
-            Answer::BadNumber(_) => 3,
-            Answer::CopiesDiffer(_) => 4,
-            Answer::BadEntry(_) => 5,
-            Answer::ReservedInUse(_) => 6,
-            Answer::WrongTicket(_) => 7,
-            Answer::DoesNotFit => 8,
-            Answer::OutOfRange => 9,
-            Answer::CountTooHigh(_) => 10,
-        }
-    }
-
-    // The place that is handed back, 0 where the answer names none.
-    pub fn place(self) -> usize
-        ensures { λ r. ⌜ r ≡ answerPlace self ⌝ }
-    {
-        match self {
-            Answer::Accepted => 0,
-            Answer::WrongLength => 0,
-            Answer::WrongMapSum => 0,
-            Answer::BadNumber(block) => block,
-            Answer::CopiesDiffer(slot) => slot,
-            Answer::BadEntry(slot) => slot,
-            Answer::ReservedInUse(block) => block,
-            Answer::WrongTicket(sector) => sector,
-            Answer::DoesNotFit => 0,
-            Answer::OutOfRange => 0,
-            Answer::CountTooHigh(block) => block,
-        }
-    }
 }
 
 // What a call hands back: how it ended, and the mapping to go on with.

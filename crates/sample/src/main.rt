@@ -24,7 +24,7 @@ fn put(zero: &mut [u8], at: usize, entry: &[u8])
 // Block zero: v 0, w 30, p 31, q 1, c 1, d 0 and eight tickets of zero, twice, in slot 0.
 fn write_zero() {
     let mut zero = io::buffer();
-    block_map::format_zero(&mut zero, Chip::Kib128);
+    block_zero::format_zero(&mut zero, Chip::Kib128);
     let at = Chip::journal_start(Chip::Kib128);
     let entry = [0u8, 30, 31, 1, 1, 0, 0, 0, 0, 0, 0, 0, 0, 0];
     put(&mut zero, at, &entry);

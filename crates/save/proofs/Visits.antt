@@ -91,14 +91,14 @@ length-opened b image h = go (isFree (b .condition))
     go false = refl
 
 -- both ends of the part of d that falls into a sector
-record Part (place k s from end : ℕ) : Type 0 where
-  low : place ≤ from
-  start : s * sectorLen ≤ from
-  some : from ≤ end
-  high : end ≤ place + k
-  stop : end ≤ s * sectorLen + sectorLen
+pub record Part (place k s from end : ℕ) : Type 0 where
+  pub low : place ≤ from
+  pub start : s * sectorLen ≤ from
+  pub some : from ≤ end
+  pub high : end ≤ place + k
+  pub stop : end ≤ s * sectorLen + sectorLen
 
-part-of : (place k s : ℕ) → firstSector place ≤ s → s < endSector place k → Part place k s (partFrom place s) (partEnd place k s)
+pub part-of : (place k s : ℕ) → firstSector place ≤ s → s < endSector place k → Part place k s (partFrom place s) (partEnd place k s)
 unfolding partFrom partEnd
 part-of place k s h t =
     record {
@@ -121,7 +121,7 @@ length-stored image d n place s can =
     length-splice image (sectorPlace n (s % sectors) + (f - s * sectorLen)) (slice (f - place) (t - place) d) (omega arith)
 
 -- what all visits keep of the state that they started from
-pub record Kept (st st2 : State) : Type 0 where
+pub record Carried (st st2 : State) : Type 0 where
   pub length-kept : length (st2 .image) ≡ length (st .image)
   pub len-kept : st2 .mapping .len ≡ st .mapping .len
   pub tickets-kept : st2 .mapping .tickets ≡ st .mapping .tickets
@@ -158,7 +158,7 @@ module _ (place : ℕ) (d : List ℕ) where
   module _ (st : State) (can : CanWrite (st .image) (st .mapping) place (length d)) where
     -- what has been kept lets the next visit be made
     pub kept-can
-        : (st2 : State) (s : ℕ) → Kept st st2 → firstSector place ≤ s → s < endSector place (length d)
+        : (st2 : State) (s : ℕ) → Carried st st2 → firstSector place ≤ s → s < endSector place (length d)
         → CanVisit (st2 .image) (numberAt (st2 .mapping) (s / sectors)) place (length d) s
     kept-can st2 s k from to =
         let c = can-visit (st .image) (st .mapping) place (length d) can s from to in
@@ -169,7 +169,7 @@ module _ (place : ℕ) (d : List ℕ) where
           short = omega (arith, c .short, k .length-kept);
         }
 
-    pub visits-kept : (k : ℕ) → k ≤ visitCount place (length d) → Kept st (visits place d k st)
+    pub visits-kept : (k : ℕ) → k ≤ visitCount place (length d) → Carried st (visits place d k st)
     unfolding visits
     visits-kept zero h = record { length-kept = refl; len-kept = refl; tickets-kept = refl; number-kept = λ v. refl }
     visits-kept (suc k) h =

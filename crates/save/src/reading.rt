@@ -3,8 +3,8 @@ ghost use mathlib.Core.Path.{_≡_};
 ghost use lib.ListN.{length, take, drop};
 ghost use Rattle.save.specs.Save.{saveBytes};
 ghost use Rattle.save.specs.Readable.{blockPart, PartIn, Readable};
-use crate::slices::copy;
-use crate::slices::smaller;
+use crate::places::block_of;
+use crate::places::smaller;
 use chip::Chip;
 use mapping::Block;
 use mapping::Mapping;
@@ -16,12 +16,12 @@ fn read_block(image: &[u8], b: Block, off: usize, part: &mut [u8])
 {
     let condition = b.condition;
     if condition.is_free() {
-        block_map::fill(part, Chip::ERASED);
+        slices::fill(part, Chip::ERASED);
         return;
     }
     let from = b.physical.0 as usize * Chip::BLOCK + off;
     let n = part.len();
-    copy(part, 0, image, from, n);
+    slices::copy(part, 0, image, from, n);
 }
 
 // buf becomes the save's bytes from `place` on.
@@ -33,7 +33,7 @@ pub fn read_save(image: &[u8], m: Mapping, place: usize, buf: &mut [u8])
     let mut done: usize = 0;
     while done < n {
         let p = place + done;
-        let v = p / Chip::BLOCK;
+        let v = block_of(p).at();
         let off = p % Chip::BLOCK;
         let k = smaller(Chip::BLOCK - off, n - done);
         let end = done + k;

@@ -6,9 +6,9 @@ ghost use Rattle.lists.specs.Words.{splice, rep};
 ghost use Rattle.chip.specs.Figures.{blockLen, erased};
 ghost use Rattle.save.specs.Visits.{state, firstCount, visitedBlock, openedImage, written, CanWrite};
 ghost use Rattle.save.specs.Parts.{storedParts, CanStore};
-use crate::slices::copy;
-use crate::slices::larger;
-use crate::slices::smaller;
+use crate::places::block_of;
+use crate::places::larger;
+use crate::places::smaller;
 use chip::Chip;
 use mapping::Block;
 use mapping::Condition;
@@ -27,7 +27,7 @@ fn init_block(image: &mut [u8], number: Physical)
     let mut j: usize = 0;
     while j < Chip::SECTORS {
         let at = tickets::sector_place(number, j);
-        copy(image, at, &sheet, 0, Chip::SECTOR);
+        slices::copy(image, at, &sheet, 0, Chip::SECTOR);
         j += 1;
     }
 }
@@ -78,7 +78,7 @@ fn store_parts(
     let from = larger(place, start);
     let end = smaller(place + bytes.len(), stop * Chip::SECTOR);
     let at = tickets::sector_place(number, s % Chip::SECTORS) + (from - start);
-    copy(image, at, bytes, from - place, end - from);
+    slices::copy(image, at, bytes, from - place, end - from);
 }
 
 // Visits sectors s up to `stop` of the save, which lie in block b: hands the block back as it is then.
@@ -109,7 +109,7 @@ pub fn write_save(image: &mut [u8], m: Mapping, place: usize, bytes: &[u8]) -> M
     let mut s = place / Chip::SECTOR;
     let end = (place + bytes.len() + (Chip::SECTOR - 1)) / Chip::SECTOR;
     while s < end {
-        let v = s / Chip::SECTORS;
+        let v = block_of(s * Chip::SECTOR).at();
         let stop = smaller((v + 1) * Chip::SECTORS, end);
         t.blocks[v] = visit_sectors(image, t.blocks[v], place, bytes, s, stop);
         s = stop;

@@ -16,20 +16,21 @@ use Rattle.chip.specs.declared.Chip.the-variants.{Mib1}
 use Rattle.chip.specs.declared.ChipOf.the-variants.{Known}
 use Rattle.chip.specs.Figures.{Layout, layoutOf, virtuals, reserved, blockLen, imageLen, inUseBit, fromLen}
 use Rattle.chip.proofs.Layouts.{sound, from-own}
-use Rattle.mapping.specs.declared.Answer.the-variants.{Accepted, CountTooHigh}
+use Rattle.answers.specs.declared.Answer.the-variants.{Accepted, CountTooHigh}
 use Rattle.mapping.specs.declared.Block.{Block}
 use Rattle.mapping.specs.declared.Condition.the-variants.{Free, Changed}
-use Rattle.mapping.specs.declared.Found.the-variants.{At}
+use Rattle.answers.specs.declared.Found.the-variants.{At}
 use Rattle.mapping.specs.declared.Mapping.{Mapping}
 use Rattle.mapping.specs.declared.Outcome.{Outcome}
 use Rattle.mapping.specs.Blocks.{isFree, noBlock, blockOf, blockAt, numberAt, countAt, withBlock}
 use Rattle.mapping.specs.Fits.{fitsAs, fitsOwn, fits}
 use Rattle.mapping.specs.Fits.Laws.{own-known, fits-is}
-use Rattle.mapping.specs.Answers.{highCountOn, highCount}
+use Rattle.mapping.specs.Limits.{highCountOn, highCount}
 use Rattle.mapping.specs.Outcomes.{outcome}
-use Rattle.mapping.specs.Search.{firstOf}
-use Rattle.block_map.specs.Put.{fresh, putMap}
-use Rattle.block_map.proofs.Settled.{fresh-in}
+use Rattle.answers.specs.Search.{firstOf}
+use Rattle.answers.proofs.Searches.{first-finds}
+use Rattle.block_zero.specs.Put.{fresh, putMap}
+use Rattle.block_zero.proofs.Settled.{fresh-in}
 use Rattle.journal.specs.declared.Entry.{Entry}
 use Rattle.journal.specs.Entries.{applied}
 use Rattle.journal.specs.Moved.{Moved}
@@ -39,9 +40,10 @@ use Rattle.tickets.specs.Tickets.{badTicket, ticketsOf}
 use Rattle.wear_leveling.specs.Open.{openOf}
 use Rattle.wear_leveling.specs.Commit.{commitAnswer}
 use Rattle.tape.specs.Cases.{Claim, L, slotOf, withSlots, entryL, nearL, BeforeL, AsL, Sized, Eight}
+use Rattle.tape.proofs.Handed.{given}
 use Rattle.tape.proofs.Formatted.{fresh-opened}
 use Rattle.tape.proofs.Journaled.{length-image}
-use Rattle.tape.proofs.Moves.{entry, first-finds, moves, one-room, moves-steps2, moves-steps}
+use Rattle.tape.proofs.Moves.{entry, moves, one-room, moves-steps2, moves-steps}
 
 module _
     (m : Mapping) (v w : ℕ) (z t : List ℕ) (b : BeforeL m w) (hv : v < reserved (layoutOf Mib1)) (long : Sized Mib1 z) (eight : Eight t)
@@ -128,9 +130,9 @@ module _
     as-l : AsL v (openOf image)
     as-l =
         record {
-          accepted = ap (λ (o : Outcome). o .answer) opens;
+          accepted = given (ap (λ (o : Outcome). o .answer) opens);
           block-v = ap (λ (o : Outcome). countAt (o .mapping) v) opens ∙ high;
-          commit = ap (λ (o : Outcome). commitAnswer (imageLen l) (o .mapping)) opens ∙ refuses;
+          commit = given (ap (λ (o : Outcome). commitAnswer (imageLen l) (o .mapping)) opens ∙ refuses);
         }
 
 -- ---- such a mapping

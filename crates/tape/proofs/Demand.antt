@@ -1,29 +1,26 @@
 -- Demand 3. What an accepted open gives is in good order (Start); each call keeps that (OnWrite, OnCommit; a read changes
 -- nothing); so every point of every run has it, and from it follow the sentences of the demand one by one.
 -- Assumes nothing.
-use mathlib.Core.Path.{_≡_, ap, _∙_}
-use mathlib.Core.Bool.{true}
+use mathlib.Core.Path.{_≡_, ap}
 use mathlib.Core.List.{List, [], _∷_}
 use Prim.Native.Nat.{ℕ}
 use borrow.Author.Tests.{eq-eqb}
 use lib.ListN.{length, take, drop}
 use Rattle.chip.specs.declared.Chip.{Chip}
-use Rattle.chip.specs.Figures.{layoutOf}
-use Rattle.mapping.specs.declared.Answer.the-variants.{Accepted}
+use Rattle.answers.specs.declared.Answer.the-variants.{Accepted}
 use Rattle.mapping.specs.declared.Mapping.{Mapping}
-use Rattle.mapping.specs.Fits.{fits}
-use Rattle.mapping.specs.Answers.{numberOf, highCount, highCountOn}
+use Rattle.answers.specs.Answers.{numberOf}
 use Rattle.mapping.specs.Outcomes.{outcome}
 use Rattle.save.specs.Save.{saveBytes}
 use Rattle.save.specs.Visits.{State, state}
 use Rattle.wear_leveling.specs.Open.{openOf}
 use Rattle.wear_leveling.specs.Read.{admission, readInto}
-use Rattle.wear_leveling.specs.Commit.{commitAnswer, unlessHigh}
 use Rattle.tape.specs.Run.{Call, read, write, commit, after, onTape, afterAll, tapeAfter}
 use Rattle.tape.specs.Demand.{Kept}
 use Rattle.tape.specs.Good.{Good}
 use Rattle.tape.proofs.OnWrite.{write-good}
-use Rattle.tape.proofs.OnCommit.{high-is, accepted-good, accepted-opens, accepted-journal, commit-good}
+use Rattle.tape.proofs.OnCommit.{accepted-good, accepted-opens, accepted-journal, commit-good}
+use Rattle.tape.proofs.Refuses.{commit-refuses}
 use Rattle.tape.proofs.Start.{chip, start-good}
 
 -- one call, accepted or refused
@@ -39,7 +36,7 @@ run-good k [] st t g = g
 run-good k (c ∷ cs) st t g = run-good k cs (after c st) (onTape c st t) (call-good k c st t g)
 
 -- an accepted read gives the save's bytes
-read-tape
+pub read-tape
     : (image : List ℕ) (m : Mapping) (t : List ℕ) (place : ℕ) (buf : List ℕ)
     → admission (length image) m place (length buf) ≡ Accepted
     → saveBytes image m ≡ t
@@ -47,11 +44,6 @@ read-tape
 unfolding readInto
 read-tape image m t place buf e h =
     rw (eq-eqb (numberOf (admission (length image) m place (length buf))) 0 (ap numberOf e), h)
-
--- commit of a mapping that fits answers by the counts alone
-fits-answer : (n : ℕ) (m : Mapping) → fits n m ≡ true → commitAnswer n m ≡ unlessHigh (highCount m)
-unfolding commitAnswer
-fits-answer n m e = rw e
 
 -- what the demand says of a point in good order
 good-kept : (k : Chip) (st : State) (t : List ℕ) → Good k st t → Kept k st t
@@ -66,7 +58,7 @@ good-kept k st t g =
             journal = accepted-journal k (st .image) (st .mapping) t g e;
             holds = accepted-good k (st .image) (st .mapping) t g e .holds;
           };
-      refuses = refuses;
+      refuses = commit-refuses (st .mapping) (length (st .image)) k (g .known) (g .fitting);
       quiet = g .quiet;
     }
   where
@@ -74,9 +66,6 @@ good-kept k st t g =
         : (place : ℕ) (buf : List ℕ) → admission (length (st .image)) (st .mapping) place (length buf) ≡ Accepted
         → readInto (st .image) (st .mapping) place buf ≡ take (length buf) (drop place t)
     reads place buf e = read-tape (st .image) (st .mapping) t place buf e (g .holds)
-
-    refuses : commitAnswer (length (st .image)) (st .mapping) ≡ unlessHigh (highCountOn (layoutOf k) (st .mapping))
-    refuses = fits-answer (length (st .image)) (st .mapping) (g .fitting) ∙ ap unlessHigh (high-is k (st .image) (st .mapping) t g)
 
 -- Take an accepted open, then any calls, refused ones included, each with the latest mapping: at every point all of it holds.
 pub demand-3

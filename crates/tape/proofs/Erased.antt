@@ -11,7 +11,7 @@ use Rattle.lists.proofs.Tests.{all-by}
 use Rattle.lists.proofs.Windows.{getD-window}
 use Rattle.chip.specs.Figures.{Layout, blockLen, slotLen, journalAt, slotCount, erased}
 use Rattle.chip.proofs.Layouts.{Sound, slot-fits}
-use Rattle.mapping.specs.declared.Answer.the-variants.{Accepted}
+use Rattle.answers.specs.declared.Answer.the-variants.{Accepted}
 use Rattle.mapping.specs.declared.Mapping.{Mapping}
 use Rattle.mapping.specs.Outcomes.{outcome}
 use Rattle.journal.specs.Entries.{slotAt, entryLen, twins, ends}

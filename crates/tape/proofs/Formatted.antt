@@ -15,20 +15,21 @@ use Rattle.lists.proofs.Tests.{and-both}
 use Rattle.lists.proofs.Splice.{length-splice}
 use Rattle.lists.proofs.Tabulate.{tabulate-same}
 use Rattle.chip.specs.declared.Chip.{Chip}
+use Rattle.chip.specs.declared.Chip.the-variants.{Kib128, Kib512, Mib1}
 use Rattle.chip.specs.Figures.{Layout, layoutOf, virtuals, reserved, blockLen, sectors, imageLen, inUseBit, mapLen, saveLen, erased, fromLen, records}
 use Rattle.chip.proofs.Layouts.{Sound, sound, map-fits, from-own}
-use Rattle.mapping.specs.declared.Answer.the-variants.{Accepted}
+use Rattle.answers.specs.declared.Answer.the-variants.{Accepted}
 use Rattle.mapping.specs.declared.Block.{Block}
-use Rattle.mapping.specs.declared.Found.the-variants.{Nothing}
+use Rattle.answers.specs.declared.Found.the-variants.{Nothing}
 use Rattle.mapping.specs.Blocks.{isFree, noBlock, numberAt, countAt, freeAt, lenOf}
 use Rattle.mapping.specs.Fits.{eachOnce, reservedFree, fitsAs, fitsOwn, fits}
 use Rattle.mapping.specs.Fits.Laws.{own-known, fits-is}
-use Rattle.mapping.specs.Search.{firstOf}
+use Rattle.answers.specs.Search.{firstOf}
 use Rattle.mapping.specs.Outcomes.{outcome, andThen}
 use Rattle.mapping.proofs.Onto.{apart-once}
-use Rattle.mapping.proofs.Searches.{first-misses}
-use Rattle.block_map.specs.Put.{fresh, formatted}
-use Rattle.block_map.proofs.Settled.{fresh-is, fresh-in}
+use Rattle.answers.proofs.Searches.{first-misses}
+use Rattle.block_zero.specs.Put.{fresh, formatted}
+use Rattle.block_zero.proofs.Settled.{fresh-is, fresh-in}
 use Rattle.journal.specs.Opened.{Opened}
 use Rattle.journal.specs.Steps.{steps2to6}
 use Rattle.tickets.specs.Tickets.{ticketIn, sectorFails, failsAt, badTicket, step7}
@@ -36,6 +37,12 @@ use Rattle.tickets.proofs.Fitting.{fits-save}
 use Rattle.save.specs.Save.{byteAt, saveBytes}
 use Rattle.wear_leveling.specs.Open.{openOf}
 use Rattle.tape.proofs.FreshOpen.{put-steps, put-opens}
+
+-- every chip has more than 5 virtual blocks
+pub five : (k : Chip) → 5 < virtuals (layoutOf k)
+five Kib128 = omega arith
+five Kib512 = omega arith
+five Mib1 = omega arith
 
 module _ (l : Layout) (s : Sound l) where
   pub fresh-number : (v : ℕ) → v < virtuals l → numberAt (fresh l) v ≡ v + 1

@@ -17,20 +17,20 @@ use Rattle.crc16.specs.Crc.{crc16}
 use Rattle.chip.specs.declared.Chip.{Chip}
 use Rattle.chip.specs.Figures.{Layout, layoutOf, virtuals, blockLen, sectors, imageLen, headerLen, itemLen, mapLen, journalAt, erased, inUseBit, records}
 use Rattle.chip.proofs.Layouts.{Sound, sound, map-fits, slot-fits, from-own}
-use Rattle.mapping.specs.declared.Answer.the-variants.{Accepted}
-use Rattle.mapping.specs.declared.Found.the-variants.{Nothing}
+use Rattle.answers.specs.declared.Answer.the-variants.{Accepted}
+use Rattle.answers.specs.declared.Found.the-variants.{Nothing}
 use Rattle.mapping.specs.declared.Mapping.{Mapping}
 use Rattle.mapping.specs.Blocks.{numberAt, countAt, freeAt}
 use Rattle.mapping.specs.Fits.{placed, reservedFree}
 use Rattle.mapping.specs.Outcomes.{outcome}
 use Rattle.mapping.proofs.Onto.{apart-once}
-use Rattle.mapping.proofs.Searches.{first-misses, first-ext}
+use Rattle.answers.proofs.Searches.{first-misses, first-ext}
 use Rattle.block_map.specs.Items.{badNumber}
-use Rattle.block_map.specs.Put.{items, lowFirst, withItems, withSum, withJournal, putMap, keepsTickets}
-use Rattle.block_map.proofs.Puts.{items-fit, length-items}
-use Rattle.block_map.proofs.Frames.{length-withItems, length-sum}
-use Rattle.block_map.proofs.RoundTrip.{put-length, put-behind, put-journal, put-sum, put-loaded}
-use Rattle.block_map.proofs.Settled.{Settled, settled-same}
+use Rattle.block_zero.specs.Put.{items, lowFirst, withItems, withSum, withJournal, putMap, keepsTickets}
+use Rattle.block_zero.proofs.Puts.{items-fit, length-items}
+use Rattle.block_zero.proofs.Frames.{length-withItems, length-sum}
+use Rattle.block_zero.proofs.RoundTrip.{put-length, put-behind, put-journal, put-sum, put-loaded}
+use Rattle.block_zero.proofs.Settled.{Settled, settled-same}
 use Rattle.journal.specs.Opened.{Opened}
 use Rattle.journal.specs.Steps.{step6, steps2to6, steps1to6}
 use Rattle.tickets.specs.Tickets.{sectorPlace, ticketIn, sectorFails, failsAt, badTicket, ticketsOf}

@@ -7,12 +7,13 @@ use native.Mathlib.Omega.{arith}
 use borrow.Author.Tests.{ne-eqb}
 use lib.ListN.{length}
 use Rattle.lists.proofs.Orders.{by-test}
-use Rattle.mapping.specs.declared.Answer.the-variants.{Accepted, DoesNotFit, OutOfRange}
+use Rattle.answers.specs.declared.Answer.the-variants.{Accepted, DoesNotFit, OutOfRange}
 use Rattle.mapping.specs.declared.Mapping.{Mapping}
 use Rattle.mapping.specs.Blocks.{lenOf}
-use Rattle.mapping.specs.Answers.{inSave, numberOf}
+use Rattle.answers.specs.Answers.{numberOf}
+use Rattle.mapping.specs.Limits.{inSave}
 use Rattle.mapping.specs.Fits.{fits}
-use Rattle.mapping.proofs.Numbers.{zero-accepted}
+use Rattle.answers.proofs.Numbers.{zero-accepted}
 use Rattle.save.specs.Visits.{state, written, CanWrite}
 use Rattle.wear_leveling.specs.Read.{admission}
 use Rattle.wear_leveling.specs.Write.{afterWrite}

@@ -17,15 +17,15 @@ use Rattle.lists.proofs.Tabulate.{tabulate-ext, upTo-ext}
 use Rattle.lists.proofs.Windows.{length-window, getD-window, window-ext}
 use Rattle.chip.specs.Figures.{Layout, virtuals, blockLen, sectors, imageLen, inUseBit, erased, largeItem, smallItem, itemLen, mapLen, journalAt, slotLen, slotCount, records}
 use Rattle.chip.proofs.Layouts.{Sound}
-use Rattle.mapping.specs.declared.Answer.the-variants.{Accepted, CopiesDiffer, BadEntry}
+use Rattle.answers.specs.declared.Answer.the-variants.{Accepted, CopiesDiffer, BadEntry}
 use Rattle.mapping.specs.declared.Mapping.{Mapping}
 use Rattle.mapping.specs.Blocks.{noBlock, countAt}
 use Rattle.mapping.specs.Outcomes.{outcome, refused, andThen}
 use Rattle.block_map.specs.Items.{itemAt, itemBlock, itemTicket, blockEntry, ticketEntry, loaded, sumHolds}
-use Rattle.block_map.specs.Put.{putMap}
-use Rattle.block_map.proofs.Puts.{items-fit}
-use Rattle.block_map.proofs.RoundTrip.{put-length, put-journal, put-sum, put-loaded}
-use Rattle.block_map.proofs.Settled.{settled-same}
+use Rattle.block_zero.specs.Put.{putMap}
+use Rattle.block_zero.proofs.Puts.{items-fit}
+use Rattle.block_zero.proofs.RoundTrip.{put-length, put-journal, put-sum, put-loaded}
+use Rattle.block_zero.proofs.Settled.{settled-same}
 use Rattle.journal.specs.declared.Entry.{Entry}
 use Rattle.journal.specs.Entries.{slotAt, entryLen, twins, entryOf, entryOk, applied}
 use Rattle.journal.specs.Opened.{Opened}

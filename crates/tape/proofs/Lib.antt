@@ -1,3 +1,4 @@
+pub mod Handed
 pub mod Erased
 pub mod FreshOpen
 pub mod Granted
@@ -5,14 +6,20 @@ pub mod Stored
 pub mod Visited
 pub mod Writes
 pub mod OnWrite
+pub mod Refuses
 pub mod OnCommit
 pub mod Start
 pub mod Demand
+pub mod Counts
 pub mod Tight
 pub mod Formatted
 pub mod Journaled
 pub mod Moves
+pub mod OnFormatted
 pub mod CaseL
 pub mod Cases
+pub mod Opening
+pub mod Table
+pub mod Keeps
 pub mod Refused
 pub mod Acts

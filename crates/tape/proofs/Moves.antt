@@ -1,29 +1,27 @@
 -- One journal entry on a block zero in good order, which moves block v onto the physical block of a free block w: it is
 -- allowed, and steps 1 to 6 accept it unless v is the reserved block. Assumes nothing.
 use mathlib.Core.Path.{_≡_, sym, ap, _∙_}
-use mathlib.Core.Bool.{Bool, true, false}
+use mathlib.Core.Bool.{true}
 use mathlib.Core.List.{List, _∷_, _++_}
-use Prim.Native.Nat.{ℕ, zero, suc, _+_, _-_, _<_, _≤_}
+use Prim.Native.Nat.{ℕ, _+_, _-_, _<_, _≤_}
 use native.Mathlib.Decide.{ℕ-discrete}
 use native.Mathlib.Omega.{arith}
 use borrow.Author.Tests.{lt-ltb, le-leb, eq-eqb}
 use lib.Dec.{eqb}
 use lib.ListN.{length, take}
 use lib.Seq.{take-at, take-all}
-use Rattle.lists.specs.Words.{pick, rep}
+use Rattle.lists.specs.Words.{rep}
 use Rattle.lists.proofs.Tests.{and-both}
 use Rattle.chip.specs.declared.Chip.{Chip}
 use Rattle.chip.specs.Figures.{Layout, layoutOf, virtuals, reserved, blockLen, sectors, imageLen, inUseBit, erased, slotLen, journalAt}
 use Rattle.chip.proofs.Layouts.{Sound, sound, slot-fits, from-own}
-use Rattle.mapping.specs.declared.Answer.the-variants.{Accepted}
+use Rattle.answers.specs.declared.Answer.the-variants.{Accepted}
 use Rattle.mapping.specs.declared.Block.{Block}
-use Rattle.mapping.specs.declared.Found.the-variants.{At}
 use Rattle.mapping.specs.declared.Mapping.{Mapping}
 use Rattle.mapping.specs.Blocks.{isFree, numberAt, countAt, freeAt}
 use Rattle.mapping.specs.Fits.{inside, reservedFree}
 use Rattle.mapping.specs.Outcomes.{outcome}
-use Rattle.mapping.specs.Search.{firstFrom}
-use Rattle.block_map.specs.Put.{putMap}
+use Rattle.block_zero.specs.Put.{putMap}
 use Rattle.journal.specs.declared.Entry.{Entry}
 use Rattle.journal.specs.Entries.{entryLen, entryOf, allowed, entryOk, applied}
 use Rattle.journal.specs.Moved.{Moved}
@@ -64,23 +62,6 @@ entry-is v w p q c d t e =
       d = d;
       tickets = sym n i;
     }
-
--- a search that misses up to v and hits there
-pub first-finds
-    : (f : ℕ → Bool) (u n v : ℕ) → u ≤ v → v < u + n → ((i : ℕ) → u ≤ i → i < v → f i ≡ false) → f v ≡ true
-    → firstFrom f u n ≡ At v
-unfolding firstFrom
-first-finds f u zero v h b miss hit = absurd (omega arith)
-first-finds f u (suc n) v h b miss hit = go (ℕ-discrete u v) (first-finds f (u + 1) n v)
-  where
-    go
-        : Dec (u ≡ v)
-        → (u + 1 ≤ v → v < u + 1 + n → ((i : ℕ) → u + 1 ≤ i → i < v → f i ≡ false) → f v ≡ true → firstFrom f (u + 1) n ≡ At v)
-        → pick (f u) (At u) (firstFrom f (u + 1) n) ≡ At v
-    go (yes e) r = rw (e, hit)
-    go (no e) r =
-        rw (miss u (omega arith) (omega (arith, e)))
-        (r (omega (arith, e)) (omega arith) (λ i p q. miss i (omega arith) q) hit)
 
 -- one entry, on a mapping in good order
 module _

@@ -7,29 +7,28 @@ use mathlib.Core.List.{List}
 use Prim.Native.Nat.{ℕ, _+_, _-_, _*_, _/_, _%_, _<_, _≤_}
 use native.Mathlib.Decide.{ℕ-discrete}
 use native.Mathlib.Omega.{arith}
-use borrow.Author.Tests.{eq-eqb, ne-eqb, lt-ltb, le-ltb, leb-false}
-use lib.Dec.{ltb, leb}
+use borrow.Author.Tests.{eq-eqb, ne-eqb, lt-ltb, le-ltb}
+use lib.Dec.{ltb}
 use lib.ListN.{length, getD, List·getD-eq-default}
 use Rattle.lists.proofs.Orders.{split, by-test, not-both}
 use Rattle.lists.proofs.Tabulate.{length-tabulate}
 use Rattle.chip.specs.declared.Chip.{Chip}
-use Rattle.chip.specs.Figures.{Layout, layoutOf, virtuals, blockLen, sectors, imageLen, journalAt, erased, inUseBit, records}
+use Rattle.chip.specs.Figures.{layoutOf, virtuals, blockLen, sectors, imageLen, journalAt, erased, inUseBit, records}
 use Rattle.chip.proofs.Layouts.{sound, from-is}
-use Rattle.mapping.specs.declared.Answer.the-variants.{Accepted}
+use Rattle.answers.specs.declared.Answer.the-variants.{Accepted}
 use Rattle.mapping.specs.declared.Block.{Block}
 use Rattle.mapping.specs.declared.Condition.{Condition}
 use Rattle.mapping.specs.declared.Condition.the-variants.{Free, Clean, Changed}
-use Rattle.mapping.specs.declared.Found.{Found}
-use Rattle.mapping.specs.declared.Found.the-variants.{At, Nothing}
+use Rattle.answers.specs.declared.Found.the-variants.{Nothing}
 use Rattle.mapping.specs.declared.Mapping.{Mapping}
 use Rattle.mapping.specs.Blocks.{noBlock, isFree, blockAt, numberAt, countAt, freeAt}
 use Rattle.mapping.specs.Fits.{Apart, reservedFree, fits}
-use Rattle.mapping.specs.Answers.{numberOf, highCount, highCountOn}
+use Rattle.answers.specs.Answers.{numberOf}
 use Rattle.mapping.specs.Outcomes.{outcome}
-use Rattle.mapping.proofs.Numbers.{zero-accepted}
-use Rattle.mapping.proofs.Searches.{first-misses, first-none}
-use Rattle.block_map.specs.Put.{putMap}
-use Rattle.block_map.proofs.RoundTrip.{put-length, put-journal}
+use Rattle.answers.proofs.Numbers.{zero-accepted}
+use Rattle.answers.proofs.Searches.{first-misses}
+use Rattle.block_zero.specs.Put.{putMap}
+use Rattle.block_zero.proofs.RoundTrip.{put-length, put-journal}
 use Rattle.journal.specs.Opened.{Opened}
 use Rattle.tickets.specs.Tickets.{ticketIn, sectorFails, failsAt, badTicket}
 use Rattle.tickets.proofs.Fitting.{fits-len, fits-apart, fits-reserved}
@@ -37,10 +36,11 @@ use Rattle.committing.specs.Committed.{isChanged, summed, settledRecord, newTic
 use Rattle.save.specs.Save.{saveBytes}
 use Rattle.save.specs.Visits.{state}
 use Rattle.wear_leveling.specs.Open.{openOf}
-use Rattle.wear_leveling.specs.Commit.{unlessHigh, commitAnswer, committedOn, afterCommit}
+use Rattle.wear_leveling.specs.Commit.{commitAnswer, committedOn, afterCommit}
 use Rattle.wear_leveling.proofs.Commits.{committed-len, committed-record, committed-ticket, committed-block, committed-number, committed-free, committed-clean, commit-is, commit-fits, commit-mapping, commit-image, commit-save}
 use Rattle.tape.specs.Good.{Good}
 use Rattle.tape.proofs.FreshOpen.{ticket-same, put-opens}
+use Rattle.tape.proofs.Refuses.{large-is, commit-refuses}
 
 -- a refused commit leaves image and mapping as they are
 pub commit-refused
@@ -63,9 +63,6 @@ clean-is Clean e f = refl
 clean-is Changed e f = absurd (not-both refl f)
 
 module _ (k : Chip) (image : List ℕ) (m : Mapping) (t : List ℕ) (g : Good k (state image m) t) where
-  l : Layout
-  l = layoutOf k
-
   few : virtuals (layoutOf k) ≤ records
   few = omega (arith, sound k .few)
 
@@ -236,30 +233,12 @@ module _ (k : Chip) (image : List ℕ) (m : Mapping) (t : List ℕ) (g : Good k 
       rw e
       (first-misses (failsAt (ticketIn image) new) 0 (virtuals (layoutOf k) * sectors) (λ i a b. fails-none e i (omega arith))))
 
-  -- the search of answer 10 is on the image's own chip
-  pub high-is : highCount m ≡ highCountOn (layoutOf k) m
-  unfolding highCount
-  high-is = rw (fits-len (length image) m (g .fitting), g .known)
-
   module _ (accepted : commitAnswer (length image) m ≡ Accepted) where
     -- no count is high, since 10 was not given
-    none-high : highCountOn (layoutOf k) m ≡ Nothing
-    unfolding commitAnswer
-    none-high =
-        let a : unlessHigh (highCount m) ≡ Accepted = rw (g .fitting) at accepted in
-        go (highCountOn (layoutOf k) m) (ap unlessHigh (sym high-is) ∙ a)
-      where
-        go : (f : Found) → unlessHigh f ≡ Accepted → f ≡ Nothing
-        go (At v) e = let z : _≡_ {A = ℕ} 10 0 = ap numberOf e in absurd (omega arith)
-        go Nothing e = refl
-
     low-counts : (v : ℕ) → v < virtuals (layoutOf k) → layoutOf k .large ≡ true → countAt new v < inUseBit
-    unfolding highCountOn
     low-counts v h e =
-        let n = rw e at none-high in
-        let low : countAt m v < inUseBit =
-        leb-false inUseBit (countAt m v)
-        (first-none (λ u. leb inUseBit (countAt m u)) 0 (virtuals (layoutOf k)) n v (omega arith) (omega arith)) in
+        let low : countAt m v ≤ 127 =
+        commit-refuses m (length image) k (g .known) (g .fitting) .accepted (large-is k e) accepted v h in
         omega (arith, same-count v h)
 
     free : reservedFree (layoutOf k) new ≡ true

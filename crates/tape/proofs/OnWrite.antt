@@ -12,13 +12,13 @@ use Rattle.lists.specs.Words.{splice}
 use Rattle.lists.proofs.Orders.{not-both}
 use Rattle.chip.specs.declared.Chip.{Chip}
 use Rattle.chip.specs.Figures.{sectors}
-use Rattle.mapping.specs.declared.Answer.the-variants.{Accepted}
+use Rattle.answers.specs.declared.Answer.the-variants.{Accepted}
 use Rattle.mapping.specs.declared.Condition.{Condition}
 use Rattle.mapping.specs.declared.Condition.the-variants.{Clean, Changed}
 use Rattle.mapping.specs.declared.Mapping.{Mapping}
 use Rattle.mapping.specs.Blocks.{isFree, blockAt}
-use Rattle.mapping.specs.Answers.{numberOf}
-use Rattle.mapping.proofs.Numbers.{zero-accepted}
+use Rattle.answers.specs.Answers.{numberOf}
+use Rattle.answers.proofs.Numbers.{zero-accepted}
 use Rattle.tickets.specs.Tickets.{ticketIn}
 use Rattle.save.specs.Visits.{State, state, written}
 use Rattle.wear_leveling.specs.Read.{admission, ifAccepted}

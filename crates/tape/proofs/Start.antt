@@ -14,19 +14,19 @@ use Rattle.chip.specs.declared.Chip.{Chip}
 use Rattle.chip.specs.declared.ChipOf.the-variants.{Known}
 use Rattle.chip.specs.Figures.{layoutOf, virtuals, blockLen, sectors, fromLen}
 use Rattle.chip.proofs.Layouts.{from-is, from-short}
-use Rattle.mapping.specs.declared.Answer.the-variants.{Accepted, WrongTicket}
+use Rattle.answers.specs.declared.Answer.the-variants.{Accepted, WrongTicket}
 use Rattle.mapping.specs.declared.Condition.the-variants.{Clean}
-use Rattle.mapping.specs.declared.Found.{Found}
-use Rattle.mapping.specs.declared.Found.the-variants.{At, Nothing}
+use Rattle.answers.specs.declared.Found.{Found}
+use Rattle.answers.specs.declared.Found.the-variants.{At, Nothing}
 use Rattle.mapping.specs.declared.Mapping.{Mapping}
 use Rattle.mapping.specs.declared.Outcome.{Outcome}
 use Rattle.mapping.specs.Blocks.{isFree, blockAt, numberAt}
 use Rattle.mapping.specs.Fits.{fits}
 use Rattle.mapping.specs.Fits.Laws.{own-known, fits-is}
-use Rattle.mapping.specs.Answers.{numberOf}
-use Rattle.mapping.specs.Outcomes.{outcome, refused, andThen, unlessFound}
-use Rattle.mapping.proofs.Numbers.{zero-accepted}
-use Rattle.mapping.proofs.Searches.{first-none}
+use Rattle.answers.specs.Answers.{numberOf}
+use Rattle.mapping.specs.Outcomes.{outcome, andThen, unlessFound}
+use Rattle.answers.proofs.Numbers.{zero-accepted}
+use Rattle.answers.proofs.Searches.{first-none}
 use Rattle.journal.specs.Opened.{Opened, OpenedAs}
 use Rattle.journal.specs.Steps.{steps1to6}
 use Rattle.journal.proofs.Accepted.{accepted-as}
@@ -59,9 +59,6 @@ unless-same (At s) n m e = let z : _≡_ {A = ℕ} 7 0 = ap (λ (x : Outcome). n
 unless-same Nothing n m e = ap (λ (x : Outcome). x .mapping) e
 
 module _ (image : List ℕ) (m : Mapping) (accepted : openOf image ≡ outcome Accepted m) where
-  o : Outcome
-  o = steps1to6 (take blockLen image) (length image)
-
   first : numberOf (steps1to6 (take blockLen image) (length image) .answer) ≡ 0
   unfolding openOf
   first = then-first (steps1to6 (take blockLen image) (length image)) (ticketsOf image) m accepted

@@ -15,31 +15,10 @@ use Rattle.chip.specs.Figures.{blockLen, sectorLen, sectors, erased}
 use Rattle.mapping.specs.declared.Block.{Block}
 use Rattle.mapping.specs.Blocks.{isFree, blockAt, numberAt}
 use Rattle.tickets.specs.Tickets.{sectorPlace}
+use Rattle.save.proofs.Visits.{part-of}
 use Rattle.save.specs.Visits.{State, firstSector, endSector, openedImage, storedPart, partFrom, partEnd, visit, visitCount}
 
--- ---- the part of k bytes from place on that falls into sector s
-
-pub record Part (place k s from end : ℕ) : Type 0 where
-  pub low : place ≤ from
-  pub start : s * sectorLen ≤ from
-  pub tight : from < s * sectorLen + sectorLen
-  pub some : from ≤ end
-  pub high : end ≤ place + k
-  pub stop : end ≤ s * sectorLen + sectorLen
-
-pub part-of : (place k s : ℕ) → firstSector place ≤ s → s < endSector place k → Part place k s (partFrom place s) (partEnd place k s)
-unfolding partFrom partEnd
-part-of place k s h t =
-    record {
-      low = omega arith;
-      start = omega arith;
-      tight = omega arith;
-      some = omega arith;
-      high = omega arith;
-      stop = omega arith;
-    }
-
--- the bytes of d in it
+-- the bytes of d that fall into sector s
 abbrev pub partOf : ℕ → List ℕ → ℕ → List ℕ
 partOf place d s = slice (partFrom place s - place) (partEnd place (length d) s - place) d
 

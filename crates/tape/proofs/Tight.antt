@@ -1,8 +1,8 @@
--- Every promise is tight: of each `pub` function of crates crc16, chip, wear_leveling and ffi, two outcomes at the same arguments
--- that both meet its contract are one, in the result and in the bytes behind its `&mut` at the exit. A contract is what the
--- checker reads of it, `Learnt`, with all its clauses; tests/tight compares the functions below with the code's. Assumes
--- nothing.
-use mathlib.Core.Path.{_≡_, sym, _∙_}
+-- Every promise is tight: of each `pub` function of crates crc16, chip, answers, mapping, wear_leveling and ffi, and of each of an
+-- inner crate that asks nothing of its caller, two outcomes at the same arguments that both meet its contract are one, in the
+-- result and in the bytes behind its `&mut` at the exit. A contract is what the checker reads of it, `Learnt`, with all its
+-- clauses; tests/tight compares the functions below with the code's. Assumes nothing.
+use mathlib.Core.Path.{_≡_, refl, sym, _∙_}
 use mathlib.Core.List.{List}
 use Prim.Native.Nat.{ℕ}
 use Rattle.crc16.proofs.crc16_ninty.Reads as crc16-ninty-reads
@@ -17,11 +17,11 @@ use Rattle.chip.proofs.Chip.map_len.Reads as chip-map-len-reads
 use Rattle.chip.proofs.Chip.journal_start.Reads as chip-journal-start-reads
 use Rattle.chip.proofs.Chip.slots.Reads as chip-slots-reads
 use Rattle.chip.proofs.Chip.save_len.Reads as chip-save-len-reads
+use Rattle.mapping.proofs.Virtual.at.Reads as virtual-at-reads
 use Rattle.mapping.proofs.Condition.is_free.Reads as condition-is-free-reads
 use Rattle.mapping.proofs.Mapping.blank.Reads as mapping-blank-reads
 use Rattle.mapping.proofs.Mapping.new.Reads as mapping-new-reads
 use Rattle.mapping.proofs.Mapping.image_len.Reads as mapping-image-len-reads
-use Rattle.mapping.proofs.Mapping.with_block.Reads as mapping-with-block-reads
 use Rattle.mapping.proofs.Mapping.with_tickets.Reads as mapping-with-tickets-reads
 use Rattle.mapping.proofs.Mapping.len.Reads as mapping-len-reads
 use Rattle.mapping.proofs.Mapping.in_use.Reads as mapping-in-use-reads
@@ -29,10 +29,20 @@ use Rattle.mapping.proofs.Mapping.reserved_free.Reads as mapping-reserved-free-
 use Rattle.mapping.proofs.Mapping.fits.Reads as mapping-fits-reads
 use Rattle.mapping.proofs.Mapping.high_count.Reads as mapping-high-count-reads
 use Rattle.mapping.proofs.in_save.Reads as in-save-reads
-use Rattle.mapping.proofs.Answer.number.Reads as answer-number-reads
-use Rattle.mapping.proofs.Answer.place.Reads as answer-place-reads
+use Rattle.answers.proofs.Answer.number.Reads as answer-number-reads
+use Rattle.answers.proofs.Answer.place.Reads as answer-place-reads
 use Rattle.mapping.proofs.Outcome.accepted.Reads as outcome-accepted-reads
 use Rattle.mapping.proofs.Outcome.refused.Reads as outcome-refused-reads
+use Rattle.block_map.proofs.item_at.Reads as item-at-reads
+use Rattle.block_map.proofs.bad_number.Reads as bad-number-reads
+use Rattle.slices.proofs.fill.Reads as fill-reads
+use Rattle.crossing.proofs.from_c.Reads as from-c-reads
+use Rattle.crossing.proofs.to_c.Reads as to-c-reads
+use Rattle.crossing.proofs.answer_to_c.Reads as answer-to-c-reads
+use Rattle.crossing.proofs.answered.Reads as answered-reads
+use Rattle.crossing.proofs.outcome_to_c.Reads as outcome-to-c-reads
+use Rattle.listing.proofs.limit.Reads as listing-limit-reads
+use Rattle.listing.proofs.counted.Reads as listing-counted-reads
 use Rattle.wear_leveling.proofs.open.Reads as open-reads
 use Rattle.wear_leveling.proofs.len.Reads as save-len-reads
 use Rattle.wear_leveling.proofs.read.Reads as read-reads
@@ -96,6 +106,9 @@ chip-slots-tight κs a r r2 s s2 p q = p ∙ sym q
 pub chip-save-len-tight : Determines chip-save-len-reads.Learnt
 chip-save-len-tight κs a r r2 s s2 p q = p ∙ sym q
 
+pub virtual-at-tight : Determines virtual-at-reads.Learnt
+virtual-at-tight κs a r r2 s s2 p q = p .0 ∙ sym (q .0)
+
 pub condition-is-free-tight : Determines condition-is-free-reads.Learnt
 condition-is-free-tight κs a r r2 s s2 p q = p ∙ sym q
 
@@ -107,9 +120,6 @@ mapping-new-tight κs a r r2 s s2 p q = p ∙ sym q
 
 pub mapping-image-len-tight : Determines mapping-image-len-reads.Learnt
 mapping-image-len-tight κs a r r2 s s2 p q = p ∙ sym q
-
-pub mapping-with-block-tight : Determines mapping-with-block-reads.Learnt
-mapping-with-block-tight κs a r r2 s s2 p q = p ∙ sym q
 
 pub mapping-with-tickets-tight : Determines mapping-with-tickets-reads.Learnt
 mapping-with-tickets-tight κs a r r2 s s2 p q = p ∙ sym q
@@ -143,6 +153,37 @@ outcome-accepted-tight κs a r r2 s s2 p q = p ∙ sym q
 
 pub outcome-refused-tight : Determines outcome-refused-reads.Learnt
 outcome-refused-tight κs a r r2 s s2 p q = p ∙ sym q
+
+pub item-at-tight : Determines item-at-reads.Learnt
+item-at-tight κs a r r2 s s2 p q = p .0 ∙ sym (q .0)
+
+pub bad-number-tight : Determines bad-number-reads.Learnt
+bad-number-tight κs a r r2 s s2 p q = p ∙ sym q
+
+pub from-c-tight : Determines from-c-reads.Learnt
+from-c-tight κs a r r2 s s2 p q = p ∙ sym q
+
+pub to-c-tight : Determines to-c-reads.Learnt
+to-c-tight κs a r r2 s s2 p q = p ∙ sym q
+
+pub answer-to-c-tight : Determines answer-to-c-reads.Learnt
+answer-to-c-tight κs a r r2 s s2 p q = p ∙ sym q
+
+pub answered-tight : Determines answered-reads.Learnt
+answered-tight κs a r r2 s s2 p q = p ∙ sym q
+
+pub outcome-to-c-tight : Determines outcome-to-c-reads.Learnt
+outcome-to-c-tight κs a r r2 s s2 p q = p ∙ sym q
+
+pub listing-limit-tight : Determines listing-limit-reads.Learnt
+listing-limit-tight κs a r r2 s s2 p q = p ∙ sym q
+
+pub listing-counted-tight : Determines listing-counted-reads.Learnt
+listing-counted-tight κs a r r2 s s2 p q = p ∙ sym q
+
+-- the bytes that are filled, the first parameter; there is no result
+pub fill-tight : DeterminesBoth fill-reads.Learnt (λ κs s. s .0 .now)
+fill-tight κs a r r2 s s2 p q = (refl, p ∙ sym q)
 
 pub open-tight : Determines open-reads.Learnt
 open-tight κs a r r2 s s2 p q = p ∙ sym q

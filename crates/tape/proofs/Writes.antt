@@ -3,42 +3,35 @@
 -- ends where the write does. Assumes nothing.
 use mathlib.Core.Path.{_≡_, refl, sym, ap, _∙_}
 use mathlib.Core.Bool.{true}
-use mathlib.Core.Logic.{_⊎_, inl, inr}
 use mathlib.Core.List.{List}
 use Prim.Native.Nat.{ℕ, zero, suc, _+_, _-_, _*_, _/_, _≤_, _<_}
 use native.Mathlib.Omega.{arith}
-use borrow.Author.Tests.{eq-eqb}
-use lib.Dec.{eqb}
 use lib.ListN.{length, take, drop}
 use lib.Seq.{take-all}
 use Rattle.lists.specs.Words.{splice}
 use Rattle.lists.proofs.Orders.{split}
 use Rattle.lists.proofs.Splice.{splice-nil}
-use Rattle.lists.proofs.Tests.{and-both}
 use Rattle.lists.proofs.Windows.{length-window, getD-window, window-ext}
 use Rattle.crc16.specs.Crc.{crc16, ticketOf}
 use Rattle.chip.specs.declared.Chip.{Chip}
 use Rattle.chip.specs.declared.ChipOf.the-variants.{Known}
 use Rattle.chip.specs.Figures.{layoutOf, virtuals, reserved, blockLen, sectorLen, sectors, saveLen, fromLen, byChip}
 use Rattle.chip.proofs.Layouts.{sound, from-is}
-use Rattle.mapping.specs.declared.Answer.the-variants.{Accepted}
+use Rattle.answers.specs.declared.Answer.the-variants.{Accepted}
 use Rattle.mapping.specs.declared.Block.{Block}
-use Rattle.mapping.specs.declared.Condition.{Condition}
-use Rattle.mapping.specs.declared.Condition.the-variants.{Free, Clean, Changed}
+use Rattle.mapping.specs.declared.Condition.the-variants.{Changed}
 use Rattle.mapping.specs.declared.Mapping.{Mapping}
-use Rattle.mapping.specs.Blocks.{isFree, blockAt, numberAt, lenOf}
-use Rattle.mapping.specs.Fits.{eachOnce, reservedFree, fitsOwn, fits, Apart}
-use Rattle.mapping.specs.Fits.Laws.{own-known, fits-is}
-use Rattle.mapping.proofs.Onto.{apart-once}
+use Rattle.mapping.specs.Blocks.{isFree, blockAt, numberAt, countAt, lenOf}
+use Rattle.mapping.specs.Fits.{fits, Apart}
 use Rattle.tickets.specs.Tickets.{sectorPlace, ticketIn}
-use Rattle.tickets.proofs.Fitting.{fits-len, fits-apart, fits-reserved, fits-save, fits-lies}
+use Rattle.tickets.proofs.Fitting.{fits-len, fits-apart, fits-reserved, fits-save, fits-by, fits-lies}
 use Rattle.save.specs.Save.{saveBytes}
 use Rattle.save.specs.Visits.{State, state, firstSector, endSector, visitCount, visits, written, CanWrite}
 use Rattle.save.proofs.ByBlocks.{length-save}
-use Rattle.save.proofs.Visits.{Kept, visits-kept}
+use Rattle.save.proofs.Visits.{Carried, visits-kept}
 use Rattle.wear_leveling.specs.Read.{admission}
 use Rattle.tape.proofs.Stored.{done, done-none, done-all, grown}
-use Rattle.tape.proofs.Visited.{Good, visit-changed, visit-numbered, visit-save, Since, since-more}
+use Rattle.tape.proofs.Visited.{Laid, visit-changed, visit-stays, visit-count, visit-numbered, visit-save, Since, since-more}
 use Rattle.tape.proofs.Granted.{accepted-can}
 
 -- an accepted write, on the chip of the image's length
@@ -55,7 +48,7 @@ module _ (image : List ℕ) (m : Mapping) (place : ℕ) (d : List ℕ) (k : Chip
   so-far : ℕ → State
   so-far j = visits place d j (state image m)
 
-  kept : (j : ℕ) → j ≤ visitCount place (length d) → Kept (state image m) (so-far j)
+  kept : (j : ℕ) → j ≤ visitCount place (length d) → Carried (state image m) (so-far j)
   unfolding so-far
   kept j h = visits-kept place d (state image m) can j h
 
@@ -73,8 +66,8 @@ module _ (image : List ℕ) (m : Mapping) (place : ℕ) (d : List ℕ) (k : Chip
         apart = λ u v bu bv e. a .apart u v bu bv (sym (s u) ∙ e ∙ s v);
       }
 
-  kept-good : (j : ℕ) → j ≤ visitCount place (length d) → Good (virtuals (layoutOf k)) (so-far j)
-  kept-good j h =
+  kept-laid : (j : ℕ) → j ≤ visitCount place (length d) → Laid (virtuals (layoutOf k)) (so-far j)
+  kept-laid j h =
       record {
         numbers = kept-apart j h;
         image = omega (arith, kept j h .length-kept, from-is (length image) k known, sound k .some);
@@ -91,7 +84,7 @@ module _ (image : List ℕ) (m : Mapping) (place : ℕ) (d : List ℕ) (k : Chip
   visits-save (suc j) h =
       let s : ℕ = firstSector place + j in
       let e : firstSector place + suc j ≡ s + 1 = omega arith in
-      visit-save place d s (omega arith) (omega arith) (virtuals (layoutOf k)) (so-far j) (kept-good j (omega arith))
+      visit-save place d s (omega arith) (omega arith) (virtuals (layoutOf k)) (so-far j) (kept-laid j (omega arith))
       (omega (arith, can .inside, kept-save j (omega arith)))
       ∙ rw (visits-save j (omega arith), e)
       (grown (saveBytes image m) place d s (omega (arith, can .inside, length-save image m)) (omega arith) (omega arith))
@@ -108,7 +101,7 @@ module _ (image : List ℕ) (m : Mapping) (place : ℕ) (d : List ℕ) (k : Chip
       }
   visits-since (suc j) h =
       since-more place d (firstSector place + j) (omega arith) (omega arith) (virtuals (layoutOf k)) (state image m) (so-far j)
-      (kept-good j (omega arith)) (omega (arith, can .inside, kept-save j (omega arith))) (visits-since j (omega arith))
+      (kept-laid j (omega arith)) (omega (arith, can .inside, kept-save j (omega arith))) (visits-since j (omega arith))
       (kept j (omega arith) .number-kept)
 
   all-visits : new ≡ so-far (visitCount place (length d))
@@ -123,7 +116,7 @@ module _ (image : List ℕ) (m : Mapping) (place : ℕ) (d : List ℕ) (k : Chip
       ∙ rw (done-all place (length d), take-all (length d) d (omega arith)))
 
   -- lengths, tickets and numbers are kept
-  pub write-kept : Kept (state image m) new
+  pub write-kept : Carried (state image m) new
   write-kept = rw all-visits (kept (visitCount place (length d)) (omega arith))
 
   pub write-length : length (new .image) ≡ length image
@@ -148,15 +141,34 @@ module _ (image : List ℕ) (m : Mapping) (place : ℕ) (d : List ℕ) (k : Chip
   pub unvisited : (v : ℕ) → (blockAt (new .mapping) v .condition ≡ Changed → ⊥) → blockAt (new .mapping) v ≡ blockAt m v
   unvisited v ne = write-since .unvisited v ne
 
-  -- each block is as it was, or changed
-  pub write-blocks : (v : ℕ) → (blockAt (new .mapping) v ≡ blockAt m v) ⊎ (blockAt (new .mapping) v .condition ≡ Changed)
-  write-blocks v = go (blockAt (new .mapping) v .condition) refl
-    where
-      go : (c : Condition) → blockAt (new .mapping) v .condition ≡ c
-          → (blockAt (new .mapping) v ≡ blockAt m v) ⊎ (blockAt (new .mapping) v .condition ≡ Changed)
-      go Free e = inl (unvisited v (λ f. let z : _≡_ {A = ℕ} 0 1 = cc in omega arith))
-      go Clean e = inl (unvisited v (λ f. let z : _≡_ {A = ℕ} 0 1 = cc in omega arith))
-      go Changed e = inr e
+  visits-count
+      : (j : ℕ) → j ≤ visitCount place (length d) → (v n : ℕ) → 1 ≤ n → countAt m v ≤ n → countAt (so-far j .mapping) v ≤ n
+  unfolding so-far visits
+  visits-count zero h v n low c = c
+  visits-count (suc j) h v n low c =
+      visit-count place d (firstSector place + j) (so-far j)
+      (visit-numbered place d (firstSector place + j) (omega arith) (omega arith) (virtuals (layoutOf k)) (so-far j)
+      (kept-laid j (omega arith)) (omega (arith, can .inside, kept-save j (omega arith))))
+      v n low (visits-count j (omega arith) v n low c)
+
+  visits-stay : (j : ℕ) → j ≤ visitCount place (length d) → (v : ℕ) → 1 ≤ countAt m v → countAt (so-far j .mapping) v ≡ countAt m v
+  unfolding so-far visits
+  visits-stay zero h v c = refl
+  visits-stay (suc j) h v c =
+      let before : countAt (so-far j .mapping) v ≡ countAt m v = visits-stay j (omega arith) v c in
+      visit-stays place d (firstSector place + j) (so-far j)
+      (visit-numbered place d (firstSector place + j) (omega arith) (omega arith) (virtuals (layoutOf k)) (so-far j)
+      (kept-laid j (omega arith)) (omega (arith, can .inside, kept-save j (omega arith))))
+      v (omega arith)
+      ∙ before
+
+  -- a count that is not 0 stays
+  pub write-stays : (v : ℕ) → 1 ≤ countAt m v → countAt (new .mapping) v ≡ countAt m v
+  write-stays v c = rw all-visits (visits-stay (visitCount place (length d)) (omega arith) v c)
+
+  -- no count is raised beyond 1
+  pub write-count : (v n : ℕ) → 1 ≤ n → countAt m v ≤ n → countAt (new .mapping) v ≤ n
+  write-count v n low c = rw all-visits (visits-count (visitCount place (length d)) (omega arith) v n low c)
 
   -- the reserved block and the records past the last are as they were
   pub write-beyond : (v : ℕ) → reserved (layoutOf k) ≤ v → blockAt (new .mapping) v ≡ blockAt m v
@@ -183,15 +195,10 @@ module _ (image : List ℕ) (m : Mapping) (place : ℕ) (d : List ℕ) (k : Chip
   pub write-fits : fits (length (new .image)) (new .mapping) ≡ true
   write-fits =
       let n : new .mapping .len ≡ length (new .image) = write-len ∙ fits-len (length image) m (can .fitting) ∙ sym write-length in
-      let c : fromLen (new .mapping .len) ≡ Known k = ap fromLen (n ∙ write-length) ∙ known in
-      fits-is (new .mapping) (length (new .image))
-      ∙ and-both (eqb (new .mapping .len) (length (new .image))) (fitsOwn (new .mapping)) (eq-eqb _ _ n)
-      (own-known (new .mapping) k c
-      ∙ and-both (eachOnce (layoutOf k) (new .mapping)) (reservedFree (layoutOf k) (new .mapping))
-      (apart-once (new .mapping) (layoutOf k) (omega (arith, sound k .some))
-      (rw all-visits (kept-apart (visitCount place (length d)) (omega arith))))
+      fits-by (length (new .image)) (new .mapping) k (rw write-length known) n
+      (rw all-visits (kept-apart (visitCount place (length d)) (omega arith)))
       (ap (λ (b : Block). isFree (b .condition)) (write-beyond (reserved (layoutOf k)) (omega arith))
-      ∙ fits-reserved (length image) m (can .fitting) k known))
+      ∙ fits-reserved (length image) m (can .fitting) k known)
 
   -- where no sector is visited nothing happens
   pub write-quiet : visitCount place (length d) ≡ 0 → new ≡ state image m
@@ -210,7 +217,7 @@ module _ (image : List ℕ) (m : Mapping) (place : ℕ) (d : List ℕ) (k : Chip
       rw (e, s)
       (visit-changed place d (firstSector place + j) (so-far j)
       (visit-numbered place d (firstSector place + j) (omega arith) (omega arith) (virtuals (layoutOf k)) (so-far j)
-      (kept-good j (omega arith)) (omega (arith, can .inside, kept-save j (omega arith)))))
+      (kept-laid j (omega arith)) (omega (arith, can .inside, kept-save j (omega arith)))))
 
   -- so a write after which no block is changed has done nothing
   pub write-still

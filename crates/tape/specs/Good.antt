@@ -8,7 +8,7 @@ use lib.ListN.{length, getD}
 use Rattle.chip.specs.declared.Chip.{Chip}
 use Rattle.chip.specs.declared.ChipOf.the-variants.{Known}
 use Rattle.chip.specs.Figures.{layoutOf, virtuals, sectors, fromLen, records}
-use Rattle.mapping.specs.declared.Answer.the-variants.{Accepted}
+use Rattle.answers.specs.declared.Answer.the-variants.{Accepted}
 use Rattle.mapping.specs.declared.Condition.the-variants.{Clean}
 use Rattle.mapping.specs.Blocks.{noBlock, blockAt, numberAt, freeAt}
 use Rattle.mapping.specs.Fits.{fits}

@@ -5,7 +5,7 @@ use mathlib.Core.List.{List, [], _∷_}
 use Prim.Native.Nat.{ℕ}
 use lib.ListN.{length}
 use Rattle.lists.specs.Words.{splice}
-use Rattle.mapping.specs.declared.Answer.{Answer}
+use Rattle.answers.specs.declared.Answer.{Answer}
 use Rattle.save.specs.Visits.{State}
 use Rattle.wear_leveling.specs.Read.{admission, ifAccepted}
 use Rattle.wear_leveling.specs.Write.{afterWrite}

@@ -12,12 +12,12 @@ use Rattle.chip.specs.declared.Chip.{Chip}
 use Rattle.chip.specs.declared.ChipOf.the-variants.{Known}
 use Rattle.chip.specs.Figures.{Layout, layoutOf, fromLen, virtuals, blockLen, sectorLen, sectors, byChip}
 use Rattle.mapping.specs.declared.Block.{Block}
-use Rattle.mapping.specs.declared.Found.{Found}
-use Rattle.mapping.specs.declared.Found.the-variants.{Nothing}
+use Rattle.answers.specs.declared.Found.{Found}
+use Rattle.answers.specs.declared.Found.the-variants.{Nothing}
 use Rattle.mapping.specs.declared.Mapping.{Mapping}
 use Rattle.mapping.specs.Blocks.{isFree, blockAt, numberAt}
-use Rattle.mapping.specs.Search.{firstOf}
-use Rattle.mapping.specs.declared.Answer.the-variants.{Accepted, WrongLength, WrongTicket}
+use Rattle.answers.specs.Search.{firstOf}
+use Rattle.answers.specs.declared.Answer.the-variants.{Accepted, WrongLength, WrongTicket}
 use Rattle.mapping.specs.declared.Outcome.{Outcome}
 use Rattle.mapping.specs.Outcomes.{outcome, refused, unlessFound}
 

@@ -3,19 +3,17 @@
 use mathlib.Core.Path.{_≡_}
 use mathlib.Core.Bool.{true, false}
 use mathlib.Core.List.{List}
-use Prim.Native.Nat.{ℕ, _+_, _-_, _≤_}
+use Prim.Native.Nat.{ℕ}
 use native.Mathlib.Omega.{arith}
-use borrow.Author.Tests.{leb-true}
-use lib.Dec.{leb}
 use lib.ListN.{length}
-use Rattle.lists.proofs.Tests.{and-left, and-right}
 use Rattle.chip.proofs.Layouts.{sound}
-use Rattle.mapping.specs.declared.Answer.the-variants.{Accepted, DoesNotFit, OutOfRange}
+use Rattle.answers.specs.declared.Answer.the-variants.{Accepted, DoesNotFit, OutOfRange}
 use Rattle.mapping.specs.declared.Mapping.{Mapping}
-use Rattle.mapping.specs.Answers.{inSave}
+use Rattle.mapping.specs.Limits.{inSave}
 use Rattle.mapping.specs.Blocks.{lenOf, blank}
 use Rattle.mapping.specs.Fits.{fits}
 use Rattle.mapping.specs.Fits.Laws.{blank-unfit}
+use Rattle.mapping.proofs.Fitted.{range-in}
 use Rattle.tickets.proofs.Fitting.{Fitting, fitting, fits-lies}
 use Rattle.save.specs.Readable.{Readable}
 use Rattle.save.specs.Visits.{CanWrite}
@@ -36,26 +34,19 @@ module _ (n : ℕ) (m : Mapping) (place k : ℕ) where
     unfolding admission
     admitted r = rw (f, r)
 
--- the range lies in the save
-inside : (save place k : ℕ) → inSave save place k ≡ true → place + k ≤ save
-inside save place k r =
-    let a : place ≤ save = leb-true place save (and-left (leb place save) (leb k (save - place)) r) in
-    let b : k ≤ save - place = leb-true k (save - place) (and-right (leb place save) (leb k (save - place)) r) in
-    omega arith
-
 -- a mapping that fits, and a range in its save: it can be written to, and read from
 module _
     (image : List ℕ) (m : Mapping) (place k : ℕ)
     (f : fits (length image) m ≡ true) (r : inSave (lenOf m) place k ≡ true)
   where
     pub can-write : CanWrite image m place k
-    can-write = record { fitting = f; inside = inside (lenOf m) place k r }
+    can-write = record { fitting = f; inside = range-in (lenOf m) place k r }
 
     pub readable : Readable image m place k
     readable =
         let c : Fitting (length image) m = fitting (length image) m f in
         record {
-          in-save = inside (lenOf m) place k r;
+          in-save = range-in (lenOf m) place k r;
           few = omega (arith, sound (c .chip) .few, c .save);
           lies = λ v h. fits-lies image m f (c .chip) (c .known) .within v (omega (arith, c .save, h));
         }

@@ -1,6 +1,6 @@
 -- What an accepted commit does, for those who work on: the save's bytes stay, since numbers start at 1 and block zero is all
--- that is stored to; the mapping goes on fitting, since numbers and free blocks stay; no block is changed any more; and the
--- image keeps its length. Assumes nothing.
+-- that is stored to; the mapping goes on fitting, since numbers and free blocks stay; and no block is changed any more.
+-- Assumes nothing.
 use mathlib.Core.Path.{_≡_, refl, sym, ap, _∙_}
 use mathlib.Core.Bool.{true, false}
 use mathlib.Core.List.{List}
@@ -15,15 +15,15 @@ use Rattle.chip.specs.declared.Chip.{Chip}
 use Rattle.chip.specs.declared.ChipOf.the-variants.{Known}
 use Rattle.chip.specs.Figures.{Layout, layoutOf, virtuals, blockLen, sectors, saveLen, reserved, fromLen, records}
 use Rattle.chip.proofs.Layouts.{sound}
-use Rattle.mapping.specs.declared.Answer.the-variants.{Accepted, DoesNotFit}
+use Rattle.answers.specs.declared.Answer.the-variants.{Accepted, DoesNotFit}
 use Rattle.mapping.specs.declared.Block.{Block}
 use Rattle.mapping.specs.declared.Condition.{Condition}
 use Rattle.mapping.specs.declared.Condition.the-variants.{Free, Clean, Changed}
 use Rattle.mapping.specs.declared.Mapping.{Mapping}
 use Rattle.mapping.specs.Blocks.{isFree, noBlock, blockAt, numberAt, freeAt, lenOf}
 use Rattle.mapping.specs.Fits.{Apart, fits}
-use Rattle.block_map.specs.Put.{putMap}
-use Rattle.block_map.proofs.RoundTrip.{put-length, put-behind}
+use Rattle.block_zero.specs.Put.{putMap}
+use Rattle.block_zero.proofs.RoundTrip.{put-behind}
 use Rattle.tickets.proofs.Fitting.{known-long, fits-len, fits-apart, fits-reserved, fits-save, fits-by}
 use Rattle.committing.specs.Committed.{isChanged, cleanCondition, cleaned, settledRecord, newTicket, committed}
 use Rattle.save.specs.Save.{byteAt, saveBytes}
@@ -48,7 +48,7 @@ module _ (l : Layout) (image : List ℕ) (m : Mapping) where
   unfolding committed
   committed-len = refl
 
-  committed-long : length (committed l image m .tickets) ≡ records * sectors
+  pub committed-long : length (committed l image m .tickets) ≡ records * sectors
   unfolding committed
   committed-long = length-tabulate (newTicket l image m) (records * sectors)
 
@@ -77,6 +77,16 @@ module _ (l : Layout) (image : List ℕ) (m : Mapping) where
 
 -- ---- an accepted commit
 
+-- its mapping fits
+pub commit-fitting : (n : ℕ) (m : Mapping) → commitAnswer n m ≡ Accepted → fits n m ≡ true
+unfolding commitAnswer
+commit-fitting n m accepted =
+    by-test (fits n m) (λ t. t)
+    (λ t.
+    let d : DoesNotFit ≡ Accepted = rw t at accepted in
+    let z : _≡_ {A = ℕ} 0 1 = cc in
+    absurd (omega arith))
+
 module _
     (image : List ℕ) (m : Mapping) (k : Chip)
     (known : fromLen (length image) ≡ Known k) (accepted : commitAnswer (length image) m ≡ Accepted)
@@ -85,13 +95,7 @@ module _
     few = omega (arith, sound k .few)
 
     fitted : fits (length image) m ≡ true
-    unfolding commitAnswer
-    fitted =
-        by-test (fits (length image) m) (λ t. t)
-        (λ t.
-        let d : DoesNotFit ≡ Accepted = rw t at accepted in
-        let z : _≡_ {A = ℕ} 0 1 = cc in
-        absurd (omega arith))
+    fitted = commit-fitting (length image) m accepted
 
     pub commit-is : afterCommit image m ≡ committedOn (layoutOf k) image m
     unfolding afterCommit
@@ -104,15 +108,6 @@ module _
     pub commit-mapping : afterCommit image m .mapping ≡ committed (layoutOf k) image m
     unfolding committedOn
     commit-mapping = rw commit-is
-
-    put-kept : length (putMap (layoutOf k) (committed (layoutOf k) image m) image) ≡ length image
-    put-kept =
-        put-length (layoutOf k) (sound k) (committed (layoutOf k) image m) (committed-long (layoutOf k) image m) image
-        (known-long (length image) k known)
-
-    -- the length stays
-    pub commit-length : length (afterCommit image m .image) ≡ length image
-    commit-length = ap length commit-image ∙ put-kept
 
     -- data blocks are not stored to
     pub commit-behind : (i : ℕ) → blockLen ≤ i → getD (afterCommit image m .image) i 0 ≡ getD image i 0

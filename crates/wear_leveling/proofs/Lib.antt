@@ -1,3 +1,4 @@
 pub mod Lying
 pub mod Admission
 pub mod Commits
+pub mod Formats

@@ -7,11 +7,11 @@ use lib.Seq.{length-take-le}
 use Rattle.chip.specs.declared.Chip.{Chip}
 use Rattle.chip.specs.declared.ChipOf.the-variants.{Known}
 use Rattle.chip.specs.Figures.{layoutOf, blockLen, fromLen}
-use Rattle.mapping.specs.declared.Answer.the-variants.{Accepted}
+use Rattle.answers.specs.declared.Answer.the-variants.{Accepted}
 use Rattle.mapping.specs.declared.Outcome.{Outcome}
-use Rattle.mapping.specs.Answers.{numberOf}
+use Rattle.answers.specs.Answers.{numberOf}
 use Rattle.mapping.specs.Outcomes.{outcome}
-use Rattle.mapping.proofs.Numbers.{zero-accepted}
+use Rattle.answers.proofs.Numbers.{zero-accepted}
 use Rattle.journal.specs.Steps.{steps1to6}
 use Rattle.journal.specs.Opened.{OpenedAs}
 use Rattle.journal.proofs.Accepted.{accepted-as}

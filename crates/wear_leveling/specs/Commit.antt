@@ -5,14 +5,14 @@ use Prim.Native.Nat.{ℕ}
 use lib.ListN.{length}
 use Rattle.lists.specs.Words.{pick}
 use Rattle.chip.specs.Figures.{Layout, layoutOf, fromLen, byChip}
-use Rattle.mapping.specs.declared.Answer.{Answer}
-use Rattle.mapping.specs.declared.Answer.the-variants.{Accepted, DoesNotFit, CountTooHigh}
-use Rattle.mapping.specs.declared.Found.{Found}
-use Rattle.mapping.specs.declared.Found.the-variants.{At, Nothing}
+use Rattle.answers.specs.declared.Answer.{Answer}
+use Rattle.answers.specs.declared.Answer.the-variants.{Accepted, DoesNotFit, CountTooHigh}
+use Rattle.answers.specs.declared.Found.{Found}
+use Rattle.answers.specs.declared.Found.the-variants.{At, Nothing}
 use Rattle.mapping.specs.declared.Mapping.{Mapping}
 use Rattle.mapping.specs.Fits.{fits}
-use Rattle.mapping.specs.Answers.{highCount}
-use Rattle.block_map.specs.Put.{putMap}
+use Rattle.mapping.specs.Limits.{highCount}
+use Rattle.block_zero.specs.Put.{putMap}
 use Rattle.committing.specs.Committed.{committed}
 use Rattle.save.specs.Visits.{State}
 use Rattle.wear_leveling.specs.Read.{ifAccepted}

@@ -4,9 +4,9 @@ use mathlib.Core.List.{List}
 use Prim.Native.Nat.{ℕ}
 use lib.ListN.{length}
 use Rattle.chip.specs.Figures.{layoutOf, fromLen, byChip}
-use Rattle.mapping.specs.declared.Answer.{Answer}
-use Rattle.mapping.specs.declared.Answer.the-variants.{Accepted, WrongLength}
-use Rattle.block_map.specs.Put.{formatted}
+use Rattle.answers.specs.declared.Answer.{Answer}
+use Rattle.answers.specs.declared.Answer.the-variants.{Accepted, WrongLength}
+use Rattle.block_zero.specs.Put.{formatted}
 
 -- 1, "length (open, format)", or 0
 unfoldable pub formatAnswer : ℕ → Answer

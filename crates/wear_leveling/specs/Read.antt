@@ -5,12 +5,13 @@ use Prim.Native.Nat.{ℕ}
 use lib.Dec.{eqb}
 use lib.ListN.{length, take, drop}
 use Rattle.lists.specs.Words.{pick}
-use Rattle.mapping.specs.declared.Answer.{Answer}
-use Rattle.mapping.specs.declared.Answer.the-variants.{Accepted, DoesNotFit, OutOfRange}
+use Rattle.answers.specs.declared.Answer.{Answer}
+use Rattle.answers.specs.declared.Answer.the-variants.{Accepted, DoesNotFit, OutOfRange}
 use Rattle.mapping.specs.declared.Mapping.{Mapping}
 use Rattle.mapping.specs.Blocks.{lenOf}
 use Rattle.mapping.specs.Fits.{fits}
-use Rattle.mapping.specs.Answers.{inSave, numberOf}
+use Rattle.answers.specs.Answers.{numberOf}
+use Rattle.mapping.specs.Limits.{inSave}
 use Rattle.save.specs.Save.{saveBytes}
 
 -- "read and write try 8 then 9": what they answer for k bytes from place on, on an image of n bytes

@@ -9,10 +9,10 @@ ghost use Rattle.wear_leveling.specs.Read.{admission, readInto};
 ghost use Rattle.wear_leveling.specs.Write.{afterWrite};
 ghost use Rattle.wear_leveling.specs.Commit.{commitAnswer, afterCommit};
 ghost use Rattle.wear_leveling.specs.Format.{formatAnswer, afterFormat};
+use answers::Answer;
+use answers::Found;
 use chip::Chip;
 use chip::ChipOf;
-use mapping::Answer;
-use mapping::Found;
 use mapping::Mapping;
 use mapping::Outcome;
 
@@ -123,7 +123,7 @@ pub fn format(image: &mut [u8]) -> Answer
     let known = Chip::from_len(image.len());
     match known {
         ChipOf::Known(kind) => {
-            block_map::format_zero(image, kind);
+            block_zero::format_zero(image, kind);
             Answer::Accepted
         }
         ChipOf::Unknown => Answer::WrongLength,

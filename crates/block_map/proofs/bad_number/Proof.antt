@@ -7,9 +7,9 @@ use borrow.Author.Needs.{needs}
 use Rattle.lists.specs.Words.{tabulate}
 use Rattle.chip.specs.Figures.{records}
 use Rattle.mapping.specs.Blocks.{numberAt}
-use Rattle.mapping.specs.Search.{firstOf, firstFrom}
+use Rattle.answers.specs.Search.{firstOf, firstFrom}
 use Rattle.mapping.specs.Fits.{appeared, placed}
-use Rattle.mapping.proofs.Searches.{first-stops, first-goes, first-ends}
+use Rattle.answers.proofs.Searches.{first-stops, first-goes, first-ends}
 use Rattle.mapping.proofs.Onto.{seen-none, seen-more}
 use Rattle.block_map.specs.Items.{badNumber}
 use Rattle.block_map.proofs.Maps.{test-placed}

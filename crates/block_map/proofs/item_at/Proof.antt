@@ -1,42 +1,39 @@
--- `item_at` meets its contract: the layout is the one that `is_large` tells. Assumes nothing.
+-- `item_at` meets its contract: an item of either length, at whichever of the records, ends in block zero. Assumes nothing.
+use mathlib.Core.Path.{_≡_}
+use mathlib.Core.Bool.{Bool, true, false}
+use Prim.Native.Nat.{ℕ, _+_, _*_, _<_, _≤_}
 use native.Mathlib.Omega.{arith}
 use borrow.Author.Needs.{needs}
+use Rattle.lists.specs.Words.{pick}
+use Rattle.chip.specs.Figures.{Layout, layoutOf, blockLen, headerLen, largeItem, smallItem, itemLen, records}
 use Rattle.block_map.proofs.item_at.Statement.{statement}
 use Rattle.block_map.proofs.item_at.Tie as tie
 
-cast-i : tie.Need-cast-i
-cast-i c = search needs
+-- n is the length of an item, and v has a record
+item-ends : (l : Layout) (v n : ℕ) → n ≡ itemLen l → v < records → headerLen + v * n + smallItem ≤ blockLen
+item-ends l v n e h = rw e (go (l .large))
+  where
+    go : (large : Bool) → headerLen + v * pick large largeItem smallItem + smallItem ≤ blockLen
+    go true = omega arith
+    go false = omega arith
 
-is-large-requires : tie.Need-is-large-requires
-is-large-requires c κs = search needs
+at-requires : tie.Need-at-requires
+at-requires c κs = search needs
+
+item-len-requires : tie.Need-item-len-requires
+item-len-requires c κs = search needs
+
+ends : (c : tie.After-item-len) → headerLen + c .before .at .result * c .item-len .result + smallItem ≤ blockLen
+ends c = item-ends (layoutOf (c .before .before .args .kind)) (c .before .at .result) (c .item-len .result) (c .item-len .ensures) (c .before .at .ensures .1)
 
 mul-result : tie.Need-mul-result
-mul-result c = search needs
+mul-result c = omega (arith, ends c)
 
 add-result : tie.Need-add-result
-add-result c = search needs
-
-mul-result-2 : tie.Need-mul-result-2
-mul-result-2 c = search needs
-
-add-result-2 : tie.Need-add-result-2
-add-result-2 c = search needs
+add-result c = omega (arith, ends c)
 
 returns : tie.Need-returns
-returns c = (rw (← c .before .is-large .ensures, c .if1 .taken), omega arith)
-
-returns-2 : tie.Need-returns-2
-returns-2 c = (rw (← c .before .is-large .ensures, c .if1 .left), omega arith)
+returns c = (rw (c .item-len .ensures, c .before .at .ensures .0), ends c)
 
 pub item-at-spec : {M : Type 1} → statement M
-item-at-spec =
-    tie.close
-    (tie.spec
-    cast-i
-    is-large-requires
-    mul-result
-    add-result
-    mul-result-2
-    add-result-2
-    returns
-    returns-2)
+item-at-spec = tie.close (tie.spec at-requires item-len-requires mul-result add-result returns)

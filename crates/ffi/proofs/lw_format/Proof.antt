@@ -1,7 +1,7 @@
 -- `lw_format` meets its contract: what `format` ensures, its answer on the way out. Assumes nothing.
 use mathlib.Core.Path.{ap, _∙_}
 use borrow.Author.Needs.{needs}
-use Rattle.ffi.specs.Crossing.{answerC}
+use Rattle.crossing.specs.Crossing.{answerC}
 use Rattle.ffi.proofs.lw_format.Statement.{statement}
 use Rattle.ffi.proofs.lw_format.Tie as tie
 

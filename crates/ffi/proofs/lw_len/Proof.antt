@@ -1,7 +1,7 @@
 -- `lw_len` meets its contract: by the chip that `from_len` finds. Assumes nothing.
 use mathlib.Core.Path.{_∙_}
 use borrow.Author.Needs.{needs}
-use Rattle.ffi.specs.Crossing.{lenC}
+use Rattle.crossing.specs.Crossing.{lenC}
 use Rattle.ffi.proofs.lw_len.Statement.{statement}
 use Rattle.ffi.proofs.lw_len.Tie as tie
 

@@ -2,7 +2,7 @@
 use mathlib.Core.Path.{ap, _∙_}
 use borrow.Author.Needs.{needs}
 use Rattle.mapping.specs.declared.Outcome.{Outcome}
-use Rattle.ffi.specs.Crossing.{outcomeC}
+use Rattle.crossing.specs.Crossing.{outcomeC}
 use Rattle.ffi.proofs.lw_write.Statement.{statement}
 use Rattle.ffi.proofs.lw_write.Tie as tie
 

@@ -8,15 +8,15 @@ use lib.ListN.{getD}
 use lib.Dec.{eqb}
 use Rattle.lists.proofs.Tests.{all-more}
 use Rattle.lists.specs.Words.{all}
-use Rattle.journal.specs.Entries.{twins}
+use Rattle.journal.specs.Entries.{entryLen, twins}
 use Rattle.journal.proofs.copies_equal.Statement.{statement}
 use Rattle.journal.proofs.copies_equal.Tie as tie
 
 abbrev Inv-loop : tie.InvT-loop
-Inv-loop slot same₀ i₀ same i = (i ≤ 14) × (same ≡ all (λ j. eqb (getD slot j 0) (getD slot (14 + j) 0)) i)
+Inv-loop slot same₀ i₀ same i = (i ≤ entryLen) × (same ≡ all (λ j. eqb (getD slot j 0) (getD slot (entryLen + j) 0)) i)
 
 abbrev μ-loop : tie.MeasureT-loop
-μ-loop slot same₀ i₀ same i = 14 - i
+μ-loop slot same₀ i₀ same i = entryLen - i
 
 loop-holds : tie.Need-loop-holds Inv-loop μ-loop
 unfolding all
@@ -41,11 +41,11 @@ loop-again : tie.Need-loop-again Inv-loop μ-loop
 loop-again c =
     let l = c .before .before .before .loop in
     let slot = c .before .before .before .before .args .slot .now in
-    (omega arith, all-more (λ i. eqb (getD slot i 0) (getD slot (14 + i) 0)) (l .i) (l .same) (l .inv .1))
+    (omega arith, all-more (λ i. eqb (getD slot i 0) (getD slot (entryLen + i) 0)) (l .i) (l .same) (l .inv .1))
 
 returns : tie.Need-returns Inv-loop μ-loop
 unfolding twins
-returns c = let e : c .before .loop .i ≡ 14 = omega arith in c .before .loop .inv .1 ∙ rw e
+returns c = let e : c .before .loop .i ≡ entryLen = omega arith in c .before .loop .inv .1 ∙ rw e
 
 pub copies-equal-spec : {M : Type 1} → statement M
 copies-equal-spec =

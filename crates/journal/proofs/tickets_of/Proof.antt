@@ -6,18 +6,19 @@ use native.Mathlib.Omega.{arith}
 use borrow.Author.Needs.{needs}
 use lib.ListN.{length, take, drop}
 use Rattle.lists.specs.Words.{rep, splice}
+use Rattle.journal.specs.Entries.{entryHead}
 use Rattle.journal.proofs.Copies.{front-none, front-more, front-all}
 use Rattle.journal.proofs.tickets_of.Statement.{statement}
 use Rattle.journal.proofs.tickets_of.Tie as tie
 
 abbrev Inv-loop : tie.InvT-loop
-Inv-loop slot tickets₀ j₀ tickets j = (j ≤ 8) × (tickets ≡ splice tickets₀ 0 (take j (drop 6 slot)))
+Inv-loop slot tickets₀ j₀ tickets j = (j ≤ 8) × (tickets ≡ splice tickets₀ 0 (take j (drop entryHead slot)))
 
 abbrev μ-loop : tie.MeasureT-loop
 μ-loop slot tickets₀ j₀ tickets j = 8 - j
 
 loop-holds : tie.Need-loop-holds Inv-loop μ-loop
-loop-holds c = (omega arith, front-none (rep 8 0) (c .args .slot .now) 6)
+loop-holds c = (omega arith, front-none (rep 8 0) (c .args .slot .now) entryHead)
 
 add-tickets : tie.Need-add-tickets Inv-loop μ-loop
 add-tickets c = search needs
@@ -39,13 +40,13 @@ loop-again c =
     let l = c .before .before .loop in
     let slot = c .before .before .before .args .slot .now in
     let h : l .j < length (rep 8 0) = omega arith in
-    (omega arith, rw (l .inv .1) (front-more (rep 8 0) slot 6 (l .j) h (omega arith)))
+    (omega arith, rw (l .inv .1) (front-more (rep 8 0) slot entryHead (l .j) h (omega arith)))
 
 returns : tie.Need-returns Inv-loop μ-loop
 returns c =
     let l = c .before .loop in
     let e : l .j ≡ 8 = omega arith in
-    l .inv .1 ∙ rw e (front-all (rep 8 0) (c .before .before .args .slot .now) 6 (omega arith))
+    l .inv .1 ∙ rw e (front-all (rep 8 0) (c .before .before .args .slot .now) entryHead (omega arith))
 
 pub tickets-of-spec : {M : Type 1} → statement M
 tickets-of-spec =

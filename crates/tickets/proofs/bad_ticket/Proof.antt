@@ -5,9 +5,9 @@ use Prim.Native.Nat.{_≤_, _<_, _+_, _-_, _*_}
 use native.Mathlib.Omega.{arith}
 use borrow.Author.Needs.{needs}
 use Rattle.chip.specs.Figures.{sectors}
-use Rattle.mapping.specs.declared.Found.the-variants.{Nothing}
+use Rattle.answers.specs.declared.Found.the-variants.{Nothing}
 use Rattle.mapping.specs.Blocks.{blockAt}
-use Rattle.mapping.proofs.Searches.{Sought, sought-none, sought-at, sought-more, sought-hit, sought-end}
+use Rattle.answers.proofs.Searches.{Sought, sought-none, sought-at, sought-more, sought-hit, sought-end}
 use Rattle.tickets.specs.Tickets.{ticketIn, failsAt, badTicket}
 use Rattle.tickets.proofs.Sectors.{fails-is}
 use Rattle.tickets.proofs.bad_ticket.Statement.{statement}

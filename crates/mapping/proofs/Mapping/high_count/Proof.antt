@@ -1,6 +1,6 @@
 -- `Mapping::high_count` meets its contract: by the chip that `from_len` finds. Assumes nothing.
 use borrow.Author.Needs.{needs}
-use Rattle.mapping.specs.Answers.{highCount}
+use Rattle.mapping.specs.Limits.{highCount}
 use Rattle.mapping.proofs.Mapping.high_count.Statement.{statement}
 use Rattle.mapping.proofs.Mapping.high_count.Tie as tie
 

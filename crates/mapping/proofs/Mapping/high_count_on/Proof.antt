@@ -7,9 +7,9 @@ use borrow.Author.Needs.{needs}
 use lib.Dec.{leb}
 use Rattle.chip.specs.Figures.{inUseBit}
 use Rattle.mapping.specs.Blocks.{countAt}
-use Rattle.mapping.specs.Search.{firstFrom, firstOf}
-use Rattle.mapping.specs.Answers.{highCountOn}
-use Rattle.mapping.proofs.Searches.{first-stops, first-goes, first-ends}
+use Rattle.answers.specs.Search.{firstFrom, firstOf}
+use Rattle.mapping.specs.Limits.{highCountOn}
+use Rattle.answers.proofs.Searches.{first-stops, first-goes, first-ends}
 use Rattle.mapping.proofs.Mapping.high_count_on.Statement.{statement}
 use Rattle.mapping.proofs.Mapping.high_count_on.Tie as tie
 

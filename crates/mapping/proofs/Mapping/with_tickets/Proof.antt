@@ -18,8 +18,8 @@ Inv-loop self₀ t at j₀ self j = (j ≤ 8) × (self ≡ mappingOf (self₀ .l
 abbrev μ-loop : tie.MeasureT-loop
 μ-loop self₀ t at j₀ self j = 8 - j
 
-cast-at : tie.Need-cast-at Inv-loop μ-loop
-cast-at c = search needs
+at-requires : tie.Need-at-requires Inv-loop μ-loop
+at-requires c κs = search needs
 
 mul-at : tie.Need-mul-at Inv-loop μ-loop
 mul-at c = search needs
@@ -28,7 +28,7 @@ loop-holds : tie.Need-loop-holds Inv-loop μ-loop
 loop-holds c =
     let m = c .before .args .t1 in
     let n : length (m .tickets) ≡ 2048 = search needs in
-    (omega arith, ap (mappingOf (m .len) (m .blocks)) (sym (splice-nil (m .tickets) (c .before .args .v .0 * 8) (omega arith))))
+    (omega arith, ap (mappingOf (m .len) (m .blocks)) (sym (splice-nil (m .tickets) (c .at .result * 8) (omega arith))))
 
 array-read-self : tie.Need-array-read-self Inv-loop μ-loop
 array-read-self c = search needs
@@ -54,7 +54,7 @@ loop-again c =
     let t : length (start .args .t3) ≡ 8 = search needs in (
       omega arith,
       rw (l .inv .1)
-          (ap (mappingOf (m .len) (m .blocks)) (taken-more (m .tickets) (start .args .v .0 * 8) (start .args .t3) (l .j) 0 (omega arith) (omega arith))),
+          (ap (mappingOf (m .len) (m .blocks)) (taken-more (m .tickets) (c .before .before .at .result * 8) (start .args .t3) (l .j) 0 (omega arith) (omega arith))),
     )
 
 returns : tie.Need-returns Inv-loop μ-loop
@@ -64,7 +64,7 @@ returns c =
     let l = c .before .loop in
     let t : length (start .args .t3) ≡ 8 = search needs in
     let e : l .j ≡ 8 = omega arith in
-    l .inv .1 ∙ rw (e, take-all 8 (start .args .t3) (omega arith))
+    l .inv .1 ∙ rw (e, take-all 8 (start .args .t3) (omega arith), c .before .before .at .ensures .0)
 
 pub with-tickets-spec : {M : Type 1} → statement M
 with-tickets-spec =
@@ -72,7 +72,7 @@ with-tickets-spec =
     (tie.spec
     Inv-loop
     μ-loop
-    cast-at
+    at-requires
     mul-at
     loop-holds
     array-read-self
