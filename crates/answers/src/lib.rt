@@ -1,9 +1,11 @@
 // The table of answers: how a call ended, with the number and the place that are handed back; and what a search found.
+#![tactic(auto)]
+
 ghost use Rattle.std.specs.Prelude.{◌≡◌};
 ghost use Rattle.answers.specs.Answers.{number_of, answer_place};
 
 // How a call ended; each refusal with the place that it names.
-#[derive(Drop)]
+#[derive(Clone, Copy)]
 pub enum Answer {
     Accepted,
     WrongLength,
@@ -59,7 +61,7 @@ impl Answer {
 }
 
 // What a search finds.
-#[derive(Drop)]
+#[derive(Clone, Copy)]
 pub enum Found {
     At(usize),
     Nothing,

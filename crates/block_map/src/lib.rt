@@ -1,5 +1,7 @@
 // The map of block zero read: items into a mapping, its sum, and the test of step 3. An inner crate: its callers lend block
 // zero, so that some functions ask for its 4,096 bytes.
+#![tactic(auto)]
+
 ghost use Rattle.std.specs.Prelude.{◌≡◌, ◌+◌, ◌*◌, ◌<◌, ◌≤◌, length};
 ghost use Rattle.lists.specs.Words.{tabulate};
 ghost use Rattle.chip.specs.Figures.{layout_of, block_len, small_item, sectors, records};

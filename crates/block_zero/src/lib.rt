@@ -1,5 +1,7 @@
 // Block zero made from a mapping, as commit and format store it: items, sum and an erased journal. An inner crate: its callers
 // lend an image of at least a block.
+#![tactic(auto)]
+
 ghost use Rattle.std.specs.Prelude.{◌≡◌, ◌+◌, ◌*◌, ◌<◌, ◌≤◌, length};
 ghost use Rattle.lists.specs.Words.{tabulate, splice};
 ghost use Rattle.chip.specs.Figures.{layout_of, block_len, sectors, records};

@@ -1,9 +1,11 @@
 // The chips with their figures. Everything here takes any argument.
+#![tactic(auto)]
+
 ghost use Rattle.std.specs.Prelude.{◌≡◌, ◌+◌, ◌<◌, ◌≤◌};
 ghost use Rattle.chip.specs.Figures.{layout_of, block_len, records, image_len, virtuals, item_len, map_len, journal_at, slot_count, save_len, from_len};
 
 // The kinds of chip.
-#[derive(Drop)]
+#[derive(Clone, Copy)]
 pub enum Chip {
     Kib128,
     Kib512,
@@ -11,7 +13,7 @@ pub enum Chip {
 }
 
 // The chip that a length belongs to, if there is one.
-#[derive(Drop)]
+#[derive(Clone, Copy)]
 pub enum ChipOf {
     Known(Chip),
     Unknown,

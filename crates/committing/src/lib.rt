@@ -1,4 +1,6 @@
 // Committing: the mapping that a commit leaves, and block zero from it.
+#![tactic(auto)]
+
 ghost use Rattle.std.specs.Prelude.{◌≡◌, ◌+◌, ◌*◌, ◌<◌, ◌≤◌, length};
 ghost use Rattle.lists.specs.Words.{pick, tabulate};
 ghost use Rattle.chip.specs.Figures.{layout_of, block_len, sectors, records};

@@ -1,4 +1,6 @@
 // The check sum of maps and sectors, CRC-16 as Modbus has it, and the ticket of a sector.
+#![tactic(auto)]
+
 ghost use Rattle.std.specs.Prelude.{◌≡◌};
 ghost use Rattle.crc16.specs.Crc.{bit_step, byte_step, crc_from, crc16, ticket_of};
 

@@ -1,5 +1,7 @@
 // How mappings, answers and outcomes cross to C: the same structs with each condition as a byte. A byte that is no condition makes
 // a mapping one that fits no image.
+#![tactic(auto)]
+
 ghost use Rattle.std.specs.Prelude.{◌≡◌, map};
 ghost use Rattle.crossing.specs.Crossing.{condition_no, condition_of, block_c, block_from_c, known, to_c, from_c, answer_c, answered, outcome_c};
 
@@ -9,7 +11,7 @@ use mapping::{Block, Condition, Mapping, Outcome, Physical};
 
 // A block's record: lw_block.
 #[repr(C)]
-#[derive(Drop)]
+#[derive(Clone, Copy)]
 pub struct CBlock {
     pub physical: u8,
     pub count: u8,
@@ -27,7 +29,7 @@ impl CBlock {
 
 // A mapping: lw_mapping.
 #[repr(C)]
-#[derive(Drop)]
+#[derive(Clone, Copy)]
 pub struct CMapping {
     pub len: usize,
     pub blocks: [CBlock; Chip::RECORDS],
@@ -36,7 +38,7 @@ pub struct CMapping {
 
 // Number and place of an answer: lw_answer.
 #[repr(C)]
-#[derive(Drop)]
+#[derive(Clone, Copy)]
 pub struct CAnswer {
     pub number: u8,
     pub place: usize,
@@ -44,7 +46,7 @@ pub struct CAnswer {
 
 // An answer and the mapping to go on with: lw_outcome.
 #[repr(C)]
-#[derive(Drop)]
+#[derive(Clone, Copy)]
 pub struct COutcome {
     pub answer: CAnswer,
     pub mapping: CMapping,

@@ -1,5 +1,7 @@
 // The calls that C makes, which include/ladlewillow.h declares: the six of wear_leveling and the sum, each with what crosses on its
-// way in and out.
+// way in and out. `ffi_c` exports them under these names.
+#![tactic(auto)]
+
 ghost use Rattle.std.specs.Prelude.{◌≡◌, length};
 ghost use Rattle.crc16.specs.Crc.{crc16};
 ghost use Rattle.mapping.specs.Outcomes.{outcome};
@@ -14,16 +16,14 @@ use chip::{Chip, ChipOf};
 use crossing::{CAnswer, CMapping, COutcome};
 
 // The sum of any bytes; 0xFFFF of none.
-#[unsafe(no_mangle)]
-pub extern "C" fn lw_crc16(bytes: &[u8]) -> u16
+pub fn lw_crc16(bytes: &[u8]) -> u16
     ensures { result ≡ crc16 bytes.now }
 {
     crc16::crc16_ninty(bytes)
 }
 
 // Formats an image of one of the chips' lengths; another length is refused with 1 and left as it is.
-#[unsafe(no_mangle)]
-pub extern "C" fn lw_format(image: &mut [u8]) -> CAnswer
+pub fn lw_format(image: &mut [u8]) -> CAnswer
     ensures value { result ≡ answer_c (format_answer (length image.old)) }
     ensures image_after { image.new ≡ after_format image.old }
 {
@@ -32,8 +32,7 @@ pub extern "C" fn lw_format(image: &mut [u8]) -> CAnswer
 }
 
 // Opens an image of any length; nothing is stored.
-#[unsafe(no_mangle)]
-pub extern "C" fn lw_open(image: &[u8]) -> COutcome
+pub fn lw_open(image: &[u8]) -> COutcome
     ensures { result ≡ answered (open_of image.now).answer (to_c (open_of image.now).mapping) }
 {
     let o = wear_leveling::open(image);
@@ -43,8 +42,7 @@ pub extern "C" fn lw_open(image: &[u8]) -> COutcome
 }
 
 // The bytes of the save that a mapping belongs to, by its length alone; 0 for a length that is no chip's.
-#[unsafe(no_mangle)]
-pub extern "C" fn lw_len(m: CMapping) -> usize
+pub fn lw_len(m: CMapping) -> usize
     ensures { result ≡ len_c m }
 {
     let found = Chip::from_len(m.len);
@@ -55,8 +53,7 @@ pub extern "C" fn lw_len(m: CMapping) -> usize
 }
 
 // Reads buf.len() bytes of the save from `place` on; the mapping goes back as it came.
-#[unsafe(no_mangle)]
-pub extern "C" fn lw_read(image: &[u8], m: CMapping, place: usize, buf: &mut [u8]) -> COutcome
+pub fn lw_read(image: &[u8], m: CMapping, place: usize, buf: &mut [u8]) -> COutcome
     ensures value { result ≡ answered (admission (length image.now) (from_c m) place (length buf.old)) m }
     ensures buf_after { buf.new ≡ read_into image.now (from_c m) place buf.old }
 {
@@ -66,8 +63,7 @@ pub extern "C" fn lw_read(image: &[u8], m: CMapping, place: usize, buf: &mut [u8
 }
 
 // Writes `bytes` into the save from `place` on.
-#[unsafe(no_mangle)]
-pub extern "C" fn lw_write(image: &mut [u8], m: CMapping, place: usize, bytes: &[u8]) -> COutcome
+pub fn lw_write(image: &mut [u8], m: CMapping, place: usize, bytes: &[u8]) -> COutcome
     ensures value { result ≡ outcome_c (outcome (admission (length image.old) (from_c m) place (length bytes.now)) (after_write image.old (from_c m) place bytes.now).mapping) m }
     ensures image_after { image.new ≡ (after_write image.old (from_c m) place bytes.now).image }
 {
@@ -76,8 +72,7 @@ pub extern "C" fn lw_write(image: &mut [u8], m: CMapping, place: usize, bytes: &
 }
 
 // Commits: block zero from the mapping, and no block changed any more.
-#[unsafe(no_mangle)]
-pub extern "C" fn lw_commit(image: &mut [u8], m: CMapping) -> COutcome
+pub fn lw_commit(image: &mut [u8], m: CMapping) -> COutcome
     ensures value { result ≡ outcome_c (outcome (commit_answer (length image.old) (from_c m)) (after_commit image.old (from_c m)).mapping) m }
     ensures image_after { image.new ≡ (after_commit image.old (from_c m)).image }
 {

@@ -1,5 +1,7 @@
 // The journal of block zero, and steps 1 to 6 of opening, which need no more than block zero and the image's length. An inner
 // crate: its callers lend block zero, so that some functions ask for its 4,096 bytes.
+#![tactic(auto)]
+
 ghost use Rattle.std.specs.Prelude.{◌≡◌, ◌≤◌, length, take, drop};
 ghost use Rattle.lists.specs.Words.{rep};
 ghost use Rattle.mapping.specs.declared.Condition.TheVariants.{Free, Clean};
@@ -14,7 +16,7 @@ use chip::{Chip, ChipOf};
 use mapping::{Block, Condition, Mapping, Outcome, Physical, Virtual};
 
 // A journal entry: v moves from q to p with count c, and w, which had p, is freed with q and count d.
-#[derive(Drop)]
+#[derive(Clone, Copy)]
 pub struct Entry {
     pub v: Virtual,
     pub w: Virtual,

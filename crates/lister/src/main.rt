@@ -1,6 +1,12 @@
 // The lister: reads an image from standard input through a 4 KiB buffer and lists its in-use blocks. It keeps block zero only
 // and never looks at tickets. What is printed is decided in `listing`, whole; here is only reading and writing.
-use libc::{STDIN_FILENO, STDOUT_FILENO};
+#![tactic(auto)]
+
+// Standard input.
+const STDIN_FILENO: i32 = 0;
+
+// Standard output.
+const STDOUT_FILENO: i32 = 1;
 
 // Reads and counts what follows the first bytes, until the input ends or the count has reached the limit. A buffer that is
 // not filled is the end of the input, and so is a read that fails.

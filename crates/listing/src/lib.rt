@@ -1,4 +1,6 @@
 // What the lister prints, decided on slices and numbers: the program itself only reads and writes.
+#![tactic(auto)]
+
 ghost use Rattle.std.specs.Prelude.{◌≡◌, ◌++◌, ◌+◌, ◌*◌, ◌<◌, ◌≤◌, length};
 ghost use Rattle.chip.specs.Figures.{records};
 ghost use Rattle.listing.specs.Lines.{limit, counted_of, report_of, most_digits, decimal, first_lines, block_line, block_lines, lines_of, list_of, text_of, line_room, room, Written};
@@ -56,7 +58,7 @@ fn put_word(out: &mut [u8], at: usize, word: &[u8]) -> usize
     ensures { Written out.old at word.now out.new result }
 {
     let end = at + word.len();
-    bytes::copy(word, &mut out[at..end]);
+    out[at..end].copy_from_slice(word);
     end
 }
 

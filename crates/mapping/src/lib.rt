@@ -2,6 +2,8 @@
 //
 // Everything here takes any argument. Nobody outside this crate writes a `Mapping` out by its fields (`len` is private):
 // `blank`, `new` and `with_tickets` make one.
+#![tactic(auto)]
+
 ghost use Rattle.std.specs.Prelude.{◌≡◌, ◌≤◌, ◌<◌, not};
 ghost use Rattle.lists.specs.Words.{pick, tabulate, how_many};
 ghost use Rattle.chip.specs.Figures.{layout_of, virtuals, records};
@@ -14,7 +16,7 @@ use answers::{Answer, Found};
 use chip::{Chip, ChipOf};
 
 // The number of a virtual block.
-#[derive(Drop)]
+#[derive(Clone, Copy)]
 pub struct Virtual(pub u8);
 
 impl Virtual {
@@ -28,11 +30,11 @@ impl Virtual {
 }
 
 // The number of a physical block.
-#[derive(Drop)]
+#[derive(Clone, Copy)]
 pub struct Physical(pub u8);
 
 // What a block has been through.
-#[derive(Drop)]
+#[derive(Clone, Copy)]
 pub enum Condition {
     Free,
     Clean,
@@ -65,7 +67,7 @@ impl Condition {
 }
 
 // What a mapping holds of one virtual block.
-#[derive(Drop)]
+#[derive(Clone, Copy)]
 pub struct Block {
     pub physical: Physical,
     pub count: u8,
@@ -74,7 +76,7 @@ pub struct Block {
 
 // Where each virtual block lies and what state it is in, with the tickets of all sectors beside: those of block v from
 // 8 × v on. Records and tickets from V on mean nothing and are kept by every call, and so are all tickets of a large chip.
-#[derive(Drop)]
+#[derive(Clone, Copy)]
 pub struct Mapping {
     // The length of the image that it belongs to.
     len: usize,
@@ -274,7 +276,7 @@ pub fn in_save(save_len: usize, place: usize, length: usize) -> bool
 }
 
 // What a call hands back: how it ended, and the mapping to go on with.
-#[derive(Drop)]
+#[derive(Clone, Copy)]
 pub struct Outcome {
     pub answer: Answer,
     pub mapping: Mapping,

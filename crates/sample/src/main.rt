@@ -1,9 +1,13 @@
 // Writes a sample for the lister: `sample image` writes to standard output a formatted 128 KiB image with case E's entry in
 // the first slot of its journal. Without that word it prints how to use it, and no image.
+#![tactic(auto)]
+
 ghost use Rattle.std.specs.Prelude.{◌+◌, ◌≤◌, length};
 
 use chip::Chip;
-use libc::STDOUT_FILENO;
+
+// Standard output.
+const STDOUT_FILENO: i32 = 1;
 
 // Whether the first argument is `image`.
 fn asked() -> bool {

@@ -1,5 +1,7 @@
 // Bytes moved about in lent slices: a slice that is filled, and a part of one copied into another. An inner crate: `copy` asks
 // that both parts are there.
+#![tactic(auto)]
+
 ghost use Rattle.std.specs.Prelude.{◌≡◌, ◌+◌, ◌≤◌, length};
 ghost use Rattle.std.proofs.Math.Seq.{slice};
 ghost use Rattle.lists.specs.Words.{splice, rep};
@@ -22,5 +24,5 @@ pub fn copy(dst: &mut [u8], at: usize, src: &[u8], from: usize, n: usize)
 {
     let to = at + n;
     let end = from + n;
-    bytes::copy(&src[from..end], &mut dst[at..to]);
+    dst[at..to].copy_from_slice(&src[from..end]);
 }

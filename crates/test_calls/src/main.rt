@@ -2,9 +2,13 @@
 // prints what they give: format, open with the mapping's len, a read, a write, the same read, a commit, an open and the same
 // read again. The byte is the save's last one. Two sums tell of the whole image before and after. What is expected stands in
 // `stdout`, worked out from the paper.
+#![tactic(auto)]
+
 use answers::Answer;
-use libc::STDOUT_FILENO;
 use mapping::Mapping;
+
+// Standard output.
+const STDOUT_FILENO: i32 = 1;
 
 // Room for the longest image: a byte more than the largest chip has.
 const ROOM: usize = 0x100001;

@@ -1,6 +1,10 @@
 // Prints the table of chips from their functions; the paper's table stands in `stdout`.
+#![tactic(auto)]
+
 use chip::Chip;
-use libc::STDOUT_FILENO;
+
+// Standard output.
+const STDOUT_FILENO: i32 = 1;
 
 fn number(n: usize) {
     io::print_decimal(STDOUT_FILENO, n as u64);

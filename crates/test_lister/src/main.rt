@@ -2,11 +2,18 @@
 // steps 1 to 6, the order of the steps, and accepted images with their in-use blocks. A line of the input is an order, told by
 // its first letter, with decimal numbers; `stdin` says at its head which there are. What the paper says of each case stands in
 // `stdout`.
+#![tactic(auto)]
+
 ghost use Rattle.std.specs.Prelude.{◌≡◌, ◌<◌, length};
 ghost use Rattle.chip.specs.Figures.{block_len};
 
 use chip::{Chip, ChipOf};
-use libc::{STDIN_FILENO, STDOUT_FILENO};
+
+// Standard input.
+const STDIN_FILENO: i32 = 0;
+
+// Standard output.
+const STDOUT_FILENO: i32 = 1;
 
 // Stores the lowest eight bits of a number, if there is such a place.
 fn set(zero: &mut [u8], at: usize, b: u32) {

@@ -7,15 +7,22 @@
 // `cargo run --offline --profile checked -p record -- 1` and keep its standard output; 1 is the seed. The head of `record` has
 // the format, which is read here in the same order. Past the end of the file every byte reads as zero. Everything in it is
 // replayed.
+#![tactic(auto)]
+
 ghost use Rattle.std.specs.Prelude.{◌≤◌};
 
 use answers::Answer;
 use chip::{Chip, ChipOf};
-use libc::{STDIN_FILENO, STDOUT_FILENO};
 use mapping::{Block, Condition, Mapping, Outcome};
 
+// Standard input.
+const STDIN_FILENO: i32 = 0;
+
+// Standard output.
+const STDOUT_FILENO: i32 = 1;
+
 // What a record holds: bytes with their sum, an image with what open gives, or such an image with a run of calls.
-#[derive(Drop)]
+#[derive(Clone, Copy)]
 enum Kind {
     Sum,
     Image,

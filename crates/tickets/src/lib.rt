@@ -1,4 +1,6 @@
 // Step 7 of opening: the tickets of a small chip's sectors.
+#![tactic(auto)]
+
 ghost use Rattle.std.specs.Prelude.{◌≡◌, ◌+◌, ◌*◌, ◌<◌, ◌≤◌, length};
 ghost use Rattle.chip.specs.Figures.{layout_of, block_len, sectors};
 ghost use Rattle.tickets.specs.Tickets.{sector_place, ticket_in, sector_fails, bad_ticket, tickets_of, Lies, LiesIn};

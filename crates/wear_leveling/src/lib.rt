@@ -1,5 +1,7 @@
 // What others call: format, open, read, write, commit and len, over an image that the caller lends and a mapping that goes in and
 // comes back by value. Each takes anything, and its contract determines answer, mapping, image and buffer, refused or not.
+#![tactic(auto)]
+
 ghost use Rattle.std.specs.Prelude.{◌≡◌, length};
 ghost use Rattle.mapping.specs.Blocks.{len_of};
 ghost use Rattle.mapping.specs.Outcomes.{outcome};
