@@ -73,6 +73,7 @@ fn load_blocks(zero: &[u8], kind: Chip) -> [Block; Chip::RECORDS]
 }
 
 // Ticket j of the map of a small chip; 0 where its block is free.
+#[tactic(auto, unfolding(crate::specs::Items::item_ticket))]
 fn item_ticket(zero: &[u8], kind: Chip, j: usize) -> u8
     requires { (length zero.now ≡ block_len) × (j < records * sectors) }
     ensures { result ≡ item_ticket (layout_of kind) zero.now j }

@@ -79,8 +79,8 @@ module _ {l : Layout} {m : Mapping} {z : List ℕ} {a k n : ℕ} {j : Outcome} {
       pub goes_large : l.large ≡ true → j ≡ journal_from l moved z (k + 1) (n - (k + 1))
       goes_large q = goes moved (rw (e.at_v, e.at_w) (applied_large l m x b c eb ec q))
 
-      pub GoesSmall
+      pub goes_small
           : l.large ≡ false
           → (y : Mapping) → y ≡ with_tickets (with_tickets moved x.w.0 (rep sectors 0)) x.v.0 x.tickets
           → j ≡ journal_from l y z (k + 1) (n - (k + 1))
-      GoesSmall q y d = goes y (d ∙ rw (e.at_v, e.at_w) (applied_small l m x b c eb ec q))
+      goes_small q y d = goes y (d ∙ rw (e.at_v, e.at_w) (applied_small l m x b c eb ec q))

@@ -42,6 +42,19 @@ written_word old word ys at h q =
       next = refl;
     }
 
+-- a word was put in, as std's `copy_from_slice` stores it in a part that was lent
+pub written_copied
+    : (old word ys : List ℕ) (at : ℕ)
+    → at + length word ≤ length old
+    → ys ≡ word
+    → Written old at word (put_mid at (at + length word - at) old ys) (at + length word)
+written_copied old word ys at h d =
+    record {
+      fits = h;
+      stored = part_back old at (length word) ys (ap length d) ∙ ap (splice old at) d;
+      next = refl;
+    }
+
 -- the buffer keeps its length
 pub written_length : {old text new : List ℕ} {at end : ℕ} → Written old at text new end → length new ≡ length old
 written_length {old} {text} {new} {at} w = ap length w.stored ∙ length-splice old at text w.fits

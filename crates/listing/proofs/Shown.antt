@@ -54,12 +54,12 @@ text_follows n o before line a f =
     joined a l b c d e h = rw h (simp append_assoc)
 
 -- the line of a block that is in use
-LineOf
+line_of
     : (v : ℕ) (b : Block)
     → is_free b.condition ≡ false
     → block_line v b ≡ field "block " v ++ (field " physical " b.physical.0 ++ (field " count " b.count ++ newline))
 unfolding block_line
-LineOf v b u = rw u
+line_of v b u = rw u
 
 -- "one block line for each in-use block going up": its line, behind the first lines and those of the blocks below it
 pub in_use_shown
@@ -73,7 +73,7 @@ in_use_shown n o k v a e h u =
     let m = o.mapping in
     let all : lines_of m ≡ virtuals (layout_of k) = rw e in
     let f = line_follows m (lines_of m) v (omega arith) in
-    subst (λ (l : List ℕ). Follows (first_lines n o.answer ++ block_lines m v) l (text_of n o)) (LineOf v (block_at m v) u)
+    subst (λ (l : List ℕ). Follows (first_lines n o.answer ++ block_lines m v) l (text_of n o)) (line_of v (block_at m v) u)
     (text_follows n o (block_lines m v) (block_line v (block_at m v)) a f)
 
 -- lines are counted piece by piece

@@ -31,6 +31,7 @@ pub fn counted(total: usize, more: usize) -> usize
 }
 
 // Steps 1 to 6 for an input of `len` bytes that began with `zero`.
+#[tactic(auto, unfolding(crate::specs::Lines::report_of))]
 fn report(zero: &[u8], len: usize) -> Outcome
     ensures { result ≡ report_of zero.now len }
 {
@@ -141,6 +142,7 @@ fn put_list(out: &mut [u8], at: usize, m: Mapping) -> usize
 
 // All that the lister prints for an input of `total` bytes that began with `zero`: puts it at the start of `out` and hands
 // back its length.
+#[tactic(auto, unfolding(crate::specs::Lines::text_of))]
 pub fn text(zero: &[u8], total: usize, out: &mut [u8]) -> usize
     requires { room ≤ length out.old }
     ensures { Written out.old 0 (text_of total (report_of zero.now total)) out.new result }

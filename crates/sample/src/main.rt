@@ -5,14 +5,17 @@
 ghost use Rattle.std.specs.Prelude.{◌+◌, ◌≤◌, length};
 
 use chip::Chip;
+use std::env::Env;
 
 // Standard output.
 const STDOUT_FILENO: i32 = 1;
 
 // Whether the first argument is `image`.
-fn asked() -> bool {
+fn asked(env: &impl Env) -> bool {
     let mut word = io::buffer();
-    let n = os::arg(1, &mut word);
+    let Ok(n) = env.arg(1, &mut word) else {
+        return false;
+    };
     let start = (word[0] == b'i') & (word[1] == b'm') & (word[2] == b'a');
     (n == 5) & start & (word[3] == b'g') & (word[4] == b'e')
 }
@@ -22,7 +25,7 @@ fn put(zero: &mut [u8], at: usize, entry: &[u8])
     requires { at + length entry.now ≤ length zero.old }
 {
     let end = at + entry.len();
-    bytes::copy(entry, &mut zero[at..end]);
+    zero[at..end].copy_from_slice(entry);
 }
 
 // Block zero: v 0, w 30, p 31, q 1, c 1, d 0 and eight tickets of zero, twice, in slot 0.
@@ -47,8 +50,8 @@ fn write_blocks() {
     }
 }
 
-fn main() {
-    if asked() {
+fn main(rt: HostRuntime) {
+    if asked(&rt) {
         write_zero();
         write_blocks();
     } else {

@@ -18,7 +18,7 @@ use Rattle.tickets.specs.Tickets.{sector_place}
 use Rattle.tickets.proofs.Fitting.{fitting}
 use Rattle.save.specs.Visits.{State, state, first_sector, end_sector, visited_block, opened_image, stored_part, part_from, part_end, CanWrite}
 use Rattle.save.specs.Parts.{stored_parts, parts_end, CanStore}
-use Rattle.save.proofs.Visits.{length_opened, visits_kept, Going, going_can, GoingMore}
+use Rattle.save.proofs.Visits.{length_opened, visits_kept, Going, going_can, going_more}
 
 -- the bytes that were copied are the parts that fall into the sectors
 pub parts_stored
@@ -158,7 +158,7 @@ module _ (place : ℕ) (d : List ℕ) (st : State) (image : List ℕ) (m : Mappi
   visits_more zero g h can =
       let e : s + suc zero ≡ s + 1 = omega arith in
       rw e
-      (GoingMore place d st image m s (stored_parts (number_at m v) place d s (s + 1) opened) b g (omega (arith, can.to)) refl
+      (going_more place d st image m s (stored_parts (number_at m v) place d s (s + 1) opened) b g (omega (arith, can.to)) refl
       (first_part place d opened (number_at m v) s))
   visits_more (suc k) g h can =
       let t : ℕ = s + suc k in
@@ -185,7 +185,7 @@ module _ (place : ℕ) (d : List ℕ) (st : State) (image : List ℕ) (m : Mappi
       rw e
       (subst (λ (n : Mapping). Going place d st (state after n) (t + 1))
       (ap (λ (u : ℕ). with_block (with_block m v b) u b) same ∙ mapping_again)
-      (GoingMore place d st before (with_block m v b) t after b r (omega (arith, can.to)) (sym p)
+      (going_more place d st before (with_block m v b) t after b r (omega (arith, can.to)) (sym p)
       (next_part place d opened (number_at m v) s t can2 (omega arith) ∙ sym q)))
 
   -- what the loop does in a turn: sectors s up to stop, all of block v

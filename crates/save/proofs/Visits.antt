@@ -206,7 +206,7 @@ module _ (place : ℕ) (d : List ℕ) where
       (kept_can st can (visits place d (s - first_sector place) st) s
       (visits_kept st can (s - first_sector place) (omega (arith, g.to))) g.from h)
 
-  pub GoingMore
+  pub going_more
       : (st : State) (image : List ℕ) (m : Mapping) (s : ℕ) (after : List ℕ) (b : Block)
       → Going st (state image m) s
       → s < end_sector place (length d)
@@ -214,7 +214,7 @@ module _ (place : ℕ) (d : List ℕ) where
       → after ≡ stored_part (number_at m (s / sectors)) place d s (opened_image (block_at m (s / sectors)) image)
       → Going st (state after (with_block m (s / sectors) b)) (s + 1)
   unfolding visit visits
-  GoingMore st image m s after b g h p q =
+  going_more st image m s after b g h p q =
       let e : s + 1 - first_sector place ≡ suc (s - first_sector place) = omega (arith, g.from) in
       let f : first_sector place + (s - first_sector place) ≡ s = omega (arith, g.from) in
       record {

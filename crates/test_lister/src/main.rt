@@ -4,7 +4,7 @@
 // `stdout`.
 #![tactic(auto)]
 
-ghost use Rattle.std.specs.Prelude.{◌≡◌, ◌<◌, length};
+ghost use Rattle.std.specs.Prelude.{◌≡◌, ◌<◌, ◌≤◌, length};
 ghost use Rattle.chip.specs.Figures.{block_len};
 
 use chip::{Chip, ChipOf};
@@ -171,6 +171,21 @@ fn obey(zero: &mut [u8], kind: Chip, line: &[u8]) -> Chip
     next
 }
 
+// Where the line that begins at `at` ends: at its newline, or at `n` where it has none.
+fn line_end(input: &[u8], at: usize, n: usize) -> usize
+    requires { (at ≤ n) × (n ≤ length input.now) }
+    ensures { (at ≤ result) × (result ≤ n) }
+{
+    let mut end = at;
+    while end < n {
+        if input[end] == b'\n' {
+            return end;
+        }
+        end += 1;
+    }
+    n
+}
+
 fn main() {
     let mut input = io::large_buffer();
     let n = io::read_full(STDIN_FILENO, &mut input);
@@ -178,7 +193,7 @@ fn main() {
     let mut kind = Chip::Kib128;
     let mut at: usize = 0;
     while at < n {
-        let end = bytes::scan::find(&input, at, n, b'\n');
+        let end = line_end(&input, at, n);
         kind = obey(&mut zero, kind, &input[at..end]);
         at = end + 1;
     }

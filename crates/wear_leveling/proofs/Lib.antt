@@ -1,4 +1,5 @@
-pub mod Lying
 pub mod Admission
 pub mod Commits
 pub mod Formats
+pub mod Lying
+pub mod Short

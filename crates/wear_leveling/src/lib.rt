@@ -17,6 +17,7 @@ use mapping::{Mapping, Outcome};
 
 // Opens an image of any length: accepted with the mapping to work with, or refused with the blank mapping and the step and
 // place that decided. Nothing is stored.
+#[tactic(auto, using(crate::proofs::Short::open_short))]
 pub fn open(image: &[u8]) -> Outcome
     ensures { result ≡ open_of image.now }
 {

@@ -1,5 +1,5 @@
 use Rattle.std.proofs.Common.{◌≡◌, ◌-◌, ◌+◌, suc, refl, arith}
-use Rattle.crc16.specs.Crc.{bit_step, byte_step}
+use Rattle.crc16.specs.Crc.{byte_step}
 use Rattle.crc16.proofs.byte_step.Goals as goal
 
 pub loop-k-init : goal.loop-k-init
