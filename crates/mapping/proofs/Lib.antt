@@ -1,2 +1,3 @@
 pub mod Onto
 pub mod Fitted
+pub mod Highs

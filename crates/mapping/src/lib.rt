@@ -234,6 +234,7 @@ impl Mapping {
     }
 
     // The first block of a large chip whose count does not go into the seven bits of an item.
+    #[tactic(auto, using(crate::proofs::Highs::high_hit, crate::proofs::Highs::high_miss, crate::proofs::Highs::high_end))]
     fn high_count_on(self, kind: Chip) -> Found
         ensures { result ≡ high_count_on (layout_of kind) self }
     {

@@ -1,5 +1,5 @@
 -- `Mapping::with_tickets` meets its contract: a turn makes the splice one ticket longer.
-use Rattle.std.proofs.Common.{rules, sym, ap, ◌∙◌, ◌≡◌, ◌*◌, arith, length}
+use Rattle.std.proofs.Common.{rules, sym, ap, ◌∙◌, ◌≡◌, arith, length}
 use lib.Seq.{take_all}
 use Rattle.lists.proofs.Splice.{splice-nil}
 use Rattle.lists.proofs.Stores.{taken_more}
@@ -10,7 +10,7 @@ pub loop-j-init : goal.loop-j-init
 loop-j-init c =
     let m = c.args.self in
     let n : length m.tickets ≡ 2048 = search rules in
-    (omega arith, ap (mapping_of _ _) (sym (splice-nil m.tickets (c.at-at.result * 8) (omega arith))))
+    (omega arith, omega arith, ap (mapping_of _ _) (sym (splice-nil m.tickets _ (omega arith))))
 
 pub loop-j-preserved : goal.loop-j-preserved
 loop-j-preserved c =
@@ -19,8 +19,9 @@ loop-j-preserved c =
     let n : length m.tickets ≡ 2048 = search rules in
     let t : length c.args.t ≡ 8 = search rules in (
       omega arith,
-      rw l.invariant.1
-          (ap (mapping_of _ _) (taken_more m.tickets (c.at-at.result * 8) c.args.t l.j 0 (omega arith) (omega arith))),
+      l.invariant.1,
+      rw l.invariant.2
+          (ap (mapping_of _ _) (taken_more m.tickets _ c.args.t l.j 0 (omega arith) (omega arith))),
     )
 
 pub returns : goal.returns
@@ -29,4 +30,4 @@ returns c =
     let l = c.loop-j in
     let t : length c.args.t ≡ 8 = search rules in
     let e : l.j ≡ 8 = omega arith in
-    l.invariant.1 ∙ rw (e, take_all 8 c.args.t (omega arith), c.at-at.ensures.value)
+    l.invariant.2 ∙ rw (e, take_all 8 c.args.t (omega arith), l.invariant.1)
