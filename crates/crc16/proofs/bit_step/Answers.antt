@@ -1,3 +1,4 @@
+-- Each branch has the test that `bit_step` of the definitions makes.
 use borrow.Author.Tests.{eq-eqb, ne_eqb}
 use Rattle.crc16.specs.Crc.{bit_step}
 use Rattle.crc16.proofs.bit_step.Goals as goal

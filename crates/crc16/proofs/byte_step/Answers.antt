@@ -1,3 +1,4 @@
+-- A turn takes one of the steps that are left.
 use Rattle.std.proofs.Common.{◌≡◌, ◌-◌, ◌+◌, suc, refl, arith}
 use Rattle.crc16.specs.Crc.{byte_step}
 use Rattle.crc16.proofs.byte_step.Goals as goal

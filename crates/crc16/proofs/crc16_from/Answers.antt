@@ -1,3 +1,4 @@
+-- A turn takes the byte at i, as the laws of `Sums` say.
 use Rattle.std.proofs.Common.{◌≤◌, length, sym, ◌∙◌, arith, rules}
 use Rattle.crc16.proofs.Sums.{from_at, from_end}
 use Rattle.crc16.proofs.crc16_from.Goals as goal
