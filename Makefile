@@ -1,5 +1,5 @@
-# make test:           everything, from nothing, ending in 'N passed, 0 failed'; its log is target/test.log (tests/clock).
-# make check:          proves what has changed, without the must-fail edits; its log is target/check.log.
+# make test:           everything, ending in 'N passed, 0 failed'; its log is target/test.log (tests/clock).
+# make check:          proves what has changed and runs the programs, without the must-fail edits; its log is target/check.log.
 # make run:            proves what the lister needs, and lists a sample.
 # make run IMAGE=file: the same, and lists that file.
 # Both leave target/bin/lister and target/bin/sample; what the prover says goes to target/run.log.
@@ -17,7 +17,7 @@ test:
 
 check: rt
 	@mkdir -p target
-	@bash -o pipefail -c "rt all check 2>&1 | tee target/check.log | grep --line-buffered -E '^(rt: |logic=)'" || \
+	@bash -o pipefail -c "rt all test 2>&1 | tee target/check.log | grep --line-buffered '^rt: '" || \
 	    { grep -E ': error|it is not proved' target/check.log | cut -c1-300 | head -n 40; exit 1; }
 
 run: rt

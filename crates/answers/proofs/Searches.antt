@@ -72,12 +72,12 @@ first_none f v (suc n) e i a b = go (f v) refl e (λ d. first_none f (v + 1) n d
     go false p d r (no c) = r d (omega (arith, c)) (omega arith)
 
 -- a search that misses up to v and hits there
-pub first_Finds
+pub first_finds
     : (f : ℕ → Bool) (u n v : ℕ) → u ≤ v → v < u + n → ((i : ℕ) → u ≤ i → i < v → f i ≡ false) → f v ≡ true
     → first_from f u n ≡ At v
 unfolding first_from
-first_Finds f u zero v h b miss hit = absurd (omega arith)
-first_Finds f u (suc n) v h b miss hit = go (ℕ_discrete u v) (first_Finds f (u + 1) n v)
+first_finds f u zero v h b miss hit = absurd (omega arith)
+first_finds f u (suc n) v h b miss hit = go (ℕ_discrete u v) (first_finds f (u + 1) n v)
   where
     go
         : Dec (u ≡ v)

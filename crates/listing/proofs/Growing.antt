@@ -22,7 +22,7 @@ use Rattle.listing.specs.Lines.{decimal_in, decimal, most_digits, Written}
 pub written_nothing : (old : List ℕ) (at : ℕ) → at ≤ length old → Written old at [] old at
 written_nothing old at h = record { fits = omega arith; stored = sym (splice-nil old at h); next = omega arith }
 
--- a word was put in, as the kit's `copy` stores it in a part that was lent
+-- a word was put in, as a copy byte by byte leaves it in a part that was lent
 pub written_word
     : (old word ys : List ℕ) (at : ℕ)
     → at + length word ≤ length old

@@ -58,7 +58,7 @@ part_filled l a e x ys h k q =
     (subst (λ (i : ℕ). put_mid a (i - a) l (replicate (e - a) x) ≡ splice l a (replicate (e - a) x)) s
     (part_back l a (e - a) (replicate (e - a) x) (length-replicate (e - a) x)))
 
--- a part `&mut l[a..a + n]` that was lent came back as a copy of `&s[f..f + n]`, as the kit's `copy` makes it
+-- a part `&mut l[a..a + n]` that was lent came back as a copy of `&s[f..f + n]`, as a copy byte by byte makes it
 pub part_copied
     : {A : Type 0} (l s ys : List A) (a f n : ℕ)
     → a + n ≤ length l → f + n ≤ length s

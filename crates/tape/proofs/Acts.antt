@@ -1,7 +1,7 @@
 -- A theorem about the definitions for each wrong library that 01, "How tight the promises are", names; of such a library it
 -- would be false. Not everything is refused: what format leaves opens, and commits after any calls on it are accepted. A read
 -- is no constant and a write stores: what was written is read. A commit acts. A count is the entry's; that a replay applies
--- every entry is in Table (`steps-0`). Assumes nothing.
+-- every entry is in Table (`steps_0`). Assumes nothing.
 use mathlib.Core.Path.{◌≡◌, sym, ap, ◌∙◌}
 use mathlib.Core.Bool.{true, false}
 use mathlib.Core.List.{List}

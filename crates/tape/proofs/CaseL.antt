@@ -28,7 +28,7 @@ use Rattle.mapping.specs.Fits.Laws.{own_known, fits_is}
 use Rattle.mapping.specs.Limits.{high_count_on, high_count}
 use Rattle.mapping.specs.Outcomes.{outcome}
 use Rattle.answers.specs.Search.{first_of}
-use Rattle.answers.proofs.Searches.{first_Finds}
+use Rattle.answers.proofs.Searches.{first_finds}
 use Rattle.block_zero.specs.Put.{fresh, put_map}
 use Rattle.block_zero.proofs.Settled.{fresh_in}
 use Rattle.journal.specs.declared.Entry.{Entry}
@@ -120,7 +120,7 @@ module _
 
     found : first_of (λ u. leb in_use_bit (count_at n u)) (virtuals l) ≡ At v
     found =
-        first_Finds (λ u. leb in_use_bit (count_at n u)) 0 (virtuals l) v (omega arith) (omega arith)
+        first_finds (λ u. leb in_use_bit (count_at n u)) 0 (virtuals l) v (omega arith) (omega arith)
         (λ i p q. lt-leb in_use_bit (count_at n i) (low i q)) (le-leb in_use_bit (count_at n v) (omega (arith, high)))
 
     refuses : commit_answer (image_len l) n ≡ CountTooHigh v

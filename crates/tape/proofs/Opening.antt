@@ -21,7 +21,7 @@ use Rattle.answers.specs.declared.Answer.{Answer}
 use Rattle.answers.specs.declared.Answer.TheVariants.{Accepted, WrongLength, WrongMapSum, BadNumber, CopiesDiffer, BadEntry, ReservedInUse, WrongTicket}
 use Rattle.answers.specs.declared.Found.TheVariants.{At, Nothing}
 use Rattle.answers.specs.Answers.{number_of}
-use Rattle.answers.proofs.Searches.{first_Finds, first_misses}
+use Rattle.answers.proofs.Searches.{first_finds, first_misses}
 use Rattle.mapping.specs.declared.Block.{Block}
 use Rattle.mapping.specs.declared.Mapping.{Mapping}
 use Rattle.mapping.specs.declared.Outcome.{Outcome}
@@ -169,7 +169,7 @@ module _ (k : Chip) (image : List ℕ) (long : Sized k image) where
       (λ e.
       bad (record { low = (placed_inside m l some v e).0; high = (placed_inside m l some v e).1; new = λ u b d. placed_new m l some v u e b d })) in
       let found : bad_number l m ≡ At v =
-      first_Finds (λ u. not (placed l.p m u)) 0 (virtuals l) v (omega arith) (omega arith)
+      first_finds (λ u. not (placed l.p m u)) 0 (virtuals l) v (omega arith) (omega arith)
       (λ u a b. ap not (placed_by m l some u (fine u b).low (fine u b).high (fine u b).new)) (ap not hit) in
       open_by (BadNumber v) refl (rw (right_sum sum, found))
 
@@ -282,7 +282,7 @@ module _ (k : Chip) (image : List ℕ) (m : Mapping) (b s : ℕ) (w : FirstWrong
   unfolding open_of tickets_of bad_ticket
   wrong_ticket n long e =
       let h : 8 * b + s < virtuals (layout_of k) * sectors = omega (arith, w.sector, w.block) in
-      let found = first_Finds (fails_at (ticket_in image) m) 0 (virtuals (layout_of k) * sectors) (8 * b + s) (omega arith) (omega arith)
+      let found = first_finds (fails_at (ticket_in image) m) 0 (virtuals (layout_of k) * sectors) (8 * b + s) (omega arith) (omega arith)
       (λ i a c. passes i c) fails in
       rw (e, long, from_own k, small k n, found)
 

@@ -16,7 +16,7 @@ use Rattle.answers.specs.declared.Found.{Found}
 use Rattle.answers.specs.declared.Found.TheVariants.{At, Nothing}
 use Rattle.answers.specs.Answers.{number_of}
 use Rattle.answers.specs.Search.{first_of}
-use Rattle.answers.proofs.Searches.{first_misses, first_none, first_Finds}
+use Rattle.answers.proofs.Searches.{first_misses, first_none, first_finds}
 use Rattle.mapping.specs.declared.Mapping.{Mapping}
 use Rattle.mapping.specs.Blocks.{count_at}
 use Rattle.mapping.specs.Fits.{fits}
@@ -61,7 +61,7 @@ module _ (m : Mapping) where
       → high_count_on (layout_of Mib1) m ≡ At v
   first_high v h b low =
       large_high
-      ∙ first_Finds (λ u. leb in_use_bit (count_at m u)) 0 (virtuals (layout_of Mib1)) v (omega arith) (omega arith)
+      ∙ first_finds (λ u. leb in_use_bit (count_at m u)) 0 (virtuals (layout_of Mib1)) v (omega arith) (omega arith)
       (λ u a c. lt-leb in_use_bit (count_at m u) (omega (arith, low u c))) (le-leb in_use_bit (count_at m v) (omega arith))
 
   high_refuses : (k : Chip) → Refuses k m (unless_high (high_count_on (layout_of k) m))

@@ -83,7 +83,7 @@ pub data Ends (l : Layout) (z : List ℕ) (j : ℕ) : Type 0 where
 abbrev pub TicketRight : List ℕ → Mapping → ℕ → ℕ → Type 0
 TicketRight image m b s = ticket_in image (number_at m b) s ≡ get_or m.tickets (8 * b + s) 0
 
--- sector s of block b is the first of an in_use block whose ticket does not fit
+-- sector s of block b is the first of an in-use block whose ticket does not fit
 pub record FirstWrong (k : Chip) (image : List ℕ) (m : Mapping) (b s : ℕ) : Type 0 where
   pub block : b < virtuals (layout_of k)
   pub sector : s < 8
