@@ -1,11 +1,11 @@
-// The table of answers: how a call ended, with the number and the place that are handed back; and what a search found.
+// The table of answers: how a call ended, with the number and the place that are handed back.
 #![tactic(auto)]
 
 ghost use Rattle.std.specs.Prelude.{◌≡◌};
 ghost use Rattle.answers.specs.Answers.{number_of, answer_place};
 
 // How a call ended; each refusal with the place that it names.
-#[derive(Clone, Copy)]
+#[derive(Clone, Copy, PartialEq, Eq)]
 pub enum Answer {
     Accepted,
     WrongLength,
@@ -45,24 +45,15 @@ impl Answer {
         ensures { result ≡ answer_place self }
     {
         match self {
-            Answer::Accepted => 0,
-            Answer::WrongLength => 0,
-            Answer::WrongMapSum => 0,
-            Answer::BadNumber(block) => block,
-            Answer::CopiesDiffer(slot) => slot,
-            Answer::BadEntry(slot) => slot,
-            Answer::ReservedInUse(block) => block,
+            Answer::BadNumber(block) | Answer::ReservedInUse(block) | Answer::CountTooHigh(block) =>
+                block,
+            Answer::CopiesDiffer(slot) | Answer::BadEntry(slot) => slot,
             Answer::WrongTicket(sector) => sector,
-            Answer::DoesNotFit => 0,
-            Answer::OutOfRange => 0,
-            Answer::CountTooHigh(block) => block,
+            Answer::Accepted
+            | Answer::WrongLength
+            | Answer::WrongMapSum
+            | Answer::DoesNotFit
+            | Answer::OutOfRange => 0,
         }
     }
-}
-
-// What a search finds.
-#[derive(Clone, Copy)]
-pub enum Found {
-    At(usize),
-    Nothing,
 }

@@ -1,13 +1,12 @@
 -- The map of block zero, read: items, tickets, the sum of step 2 and the numbers of step 3 (01, "The three chips" and
 -- "Opening"). `z` is block zero or any list that begins with it. Assumes nothing.
-use Rattle.std.specs.Prelude.{Bool, not, ◌&&◌, List, ℕ, ◌+◌, ◌*◌, ◌/◌, ◌%◌, eqb, leb, get_or, take}
+use Rattle.std.specs.Prelude.{Bool, not, ◌&&◌, List, ℕ, ◌+◌, ◌*◌, ◌/◌, ◌%◌, eqb, leb, get_or, take, Option}
 use Rattle.lists.specs.Words.{pick, up_to, tabulate}
 use Rattle.crc16.specs.Crc.{crc16}
 use Rattle.chip.specs.Figures.{Layout, virtuals, sectors, image_len, header_len, in_use_bit, item_len, map_len, records}
 use Rattle.mapping.specs.declared.Block.{Block}
 use Rattle.mapping.specs.declared.Condition.{Condition}
 use Rattle.mapping.specs.declared.Condition.TheVariants.{Free, Clean}
-use Rattle.answers.specs.declared.Found.{Found}
 use Rattle.mapping.specs.declared.Mapping.{Mapping}
 use Rattle.mapping.specs.Blocks.{block_of, no_block, mapping_of}
 use Rattle.answers.specs.Search.{first_of}
@@ -55,5 +54,5 @@ unfoldable pub sum_holds : Layout → List ℕ → Bool
 sum_holds l z = eqb (crc16 (take (map_len l) z)) (get_or z (map_len l) 0 + 256 * get_or z (map_len l + 1) 0)
 
 -- step 3: "going up through the virtual blocks", the first whose number is outside or repeated
-unfoldable pub bad_number : Layout → Mapping → Found
+unfoldable pub bad_number : Layout → Mapping → Option ℕ
 bad_number l m = first_of (λ v. not (placed l.p m v)) (virtuals l)

@@ -1,17 +1,18 @@
 -- Laws of the items as they are stored: how long they are, that they lie in the map, and that a store of one more joins on
--- to those before it. Assumes nothing.
+-- to those before it; before them what the code stores of the sum and of a cleared map. Assumes nothing.
 use mathlib.Core.Path.{◌≡◌, sym, ap, ◌∙◌, subst}
 use mathlib.Core.Bool.{Bool, true, false}
 use mathlib.Core.List.{List, [], ◌++◌, append-nil}
-use Prim.Native.Nat.{ℕ, zero, suc, ◌+◌, ◌*◌, ◌<◌, ◌≤◌}
+use Prim.Native.Nat.{ℕ, zero, suc, ◌+◌, ◌*◌, ◌/◌, ◌%◌, ◌^◌, ◌<◌, ◌≤◌}
 use native.Mathlib.Nat.{zero-mul, suc-mul}
 use native.Mathlib.Numerals.{add-one}
 use native.Mathlib.Omega.{arith}
-use lib.ListN.{length, take, drop, length-append}
-use lib.Seq.{slice}
-use Rattle.lists.specs.Words.{pick, splice}
+use lib.ListN.{length, take, drop, length-append, length-replicate}
+use lib.Seq.{slice, length-take-le}
+use Rattle.std.specs.Int.{to_le_bytes, w16}
+use Rattle.lists.specs.Words.{pick, splice, rep}
 use Rattle.lists.proofs.Orders.{by_test}
-use Rattle.lists.proofs.Splice.{splice-splice}
+use Rattle.lists.proofs.Splice.{splice-nil, splice-splice}
 use Rattle.lists.proofs.Windows.{length-window, take-drop}
 use Rattle.chip.specs.Figures.{Layout, virtuals, block_len, sectors, header_len, large_item, small_item, item_len, map_len, records}
 use Rattle.chip.proofs.Layouts.{Sound, map_fits}
@@ -19,7 +20,17 @@ use Rattle.mapping.specs.declared.Block.{Block}
 use Rattle.mapping.specs.declared.Mapping.{Mapping}
 use Rattle.mapping.specs.Blocks.{block_at}
 use Rattle.block_map.specs.Items.{item_at}
-use Rattle.block_zero.specs.Put.{item_pair, item_of, item_bytes, items}
+use Rattle.block_zero.specs.Put.{item_pair, item_of, item_bytes, items, low_first}
+
+-- the bytes of a 16-bit number, as the code stores them
+pub two_bytes : (n : ℕ) → n < 2 ^ 16 → to_le_bytes w16 n ≡ low_first n
+two_bytes n h = let high : n / 256 % 256 ≡ n / 256 = omega arith in rw high
+
+-- a list whose front was lent and came back zeroed
+pub front_zeroed : (z ys : List ℕ) (n : ℕ) → n ≤ length z → ys ≡ rep (length (take n z)) 0 → ys ++ drop n z ≡ splice z 0 (rep n 0)
+unfolding splice
+front_zeroed z ys n h e =
+    let k : 0 + length (rep n 0) ≡ n = omega (arith, length-replicate {A = ℕ} n 0) in rw (e, length-take-le n z h, k)
 
 -- the items lie in the map
 pub items_fit : (l : Layout) → Sound l → (n : ℕ) → n ≤ virtuals l → header_len + n * item_len l ≤ map_len l
@@ -79,7 +90,11 @@ module _ (l : Layout) (m : Mapping) (tickets : length m.tickets ≡ records * se
       let e : length (item_bytes l m n) ≡ item_len l = length_item l (block_at m n) m.tickets n tickets (omega arith) in
       length-append (items l m n) (item_bytes l m n) ∙ rw (length_items n (omega arith), e) (sym (suc-mul n (item_len l)))
 
-  -- a turn of the loop that stores them
+  -- the loop that stores them: none yet, and one more
+  pub items_none : (z : List ℕ) → block_len ≤ length z → z ≡ splice z header_len (items l m 0)
+  unfolding items
+  items_none z h = sym (splice-nil z header_len (omega arith))
+
   pub items_more
       : (z : List ℕ) (i : ℕ)
       → Sound l → block_len ≤ length z → i < virtuals l

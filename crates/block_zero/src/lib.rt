@@ -24,6 +24,7 @@ fn head_byte(condition: Condition, n: u8) -> u8
 }
 
 // Stores the two bytes of an item.
+#[tactic(auto, using(lists::proofs::Stores::set_two), unfolding(crate::specs::Put::item_pair))]
 fn put_pair(image: &mut [u8], at: usize, kind: Chip, b: Block)
     requires { at + 2 ≤ length image.old }
     ensures { image.new ≡ splice image.old at (item_pair (layout_of kind) b) }
@@ -57,16 +58,15 @@ fn put_item(image: &mut [u8], kind: Chip, v: Virtual, b: Block, tickets: &[u8])
 }
 
 // Stores the items of all virtual blocks.
+#[tactic(auto, using(crate::proofs::Puts::items_none, crate::proofs::Puts::items_more, chip::proofs::Layouts::sound), unfolding(crate::specs::Put::with_items))]
 fn put_items(image: &mut [u8], kind: Chip, m: Mapping)
     requires { block_len ≤ length image.old }
     ensures { image.new ≡ with_items (layout_of kind) m image.old }
 {
     let v = Chip::virtual_blocks(kind);
     let tickets = m.tickets;
-    let mut i: usize = 0;
-    while i < v {
+    for i in 0..v {
         put_item(image, kind, Virtual(i as u8), m.blocks[i], &tickets);
-        i += 1;
     }
 }
 
@@ -76,9 +76,8 @@ fn put_sum(image: &mut [u8], kind: Chip)
     ensures { image.new ≡ with_sum (layout_of kind) image.old }
 {
     let end = Chip::map_len(kind);
-    let sum = crc16::crc16_ninty(&image[0..end]);
-    image[end] = (sum % 256) as u8;
-    image[end + 1] = (sum / 256) as u8;
+    let sum = crc16::crc16_ninty(&image[..end]);
+    image[end..end + 2].copy_from_slice(&sum.to_le_bytes());
 }
 
 // Block zero from a mapping: items, sum and an erased journal; header and padding stay, and so does all behind block zero.
@@ -93,24 +92,13 @@ pub fn put_map(image: &mut [u8], kind: Chip, m: Mapping)
 }
 
 // The records of a formatted image: block i free with physical number i + 1.
+#[tactic(auto, using(block_map::proofs::Maps::blank_block, lists::proofs::Tabulate::fill_none, lists::proofs::Tabulate::fill_more))]
 fn fresh_blocks(kind: Chip) -> [Block; Chip::RECORDS]
     ensures { result ≡ tabulate (fresh_entry (layout_of kind)) records }
 {
-    let none = Block {
-        physical: Physical(0),
-        count: 0,
-        condition: Condition::Free,
-    };
-    let v = Chip::virtual_blocks(kind);
-    let mut blocks = [none; Chip::RECORDS];
-    let mut i: usize = 0;
-    while i < v {
-        blocks[i] = Block {
-            physical: Physical((i + 1) as u8),
-            count: 0,
-            condition: Condition::Free,
-        };
-        i += 1;
+    let mut blocks = [Block::default(); Chip::RECORDS];
+    for i in 0..Chip::virtual_blocks(kind) {
+        blocks[i].physical = Physical((i + 1) as u8);
     }
     blocks
 }
@@ -121,7 +109,7 @@ pub fn format_zero(image: &mut [u8], kind: Chip)
     ensures { image.new ≡ formatted (layout_of kind) image.old }
 {
     let end = Chip::map_len(kind);
-    slices::fill(&mut image[0..end], 0);
+    slices::fill(&mut image[..end], 0);
     let blocks = fresh_blocks(kind);
     let m = Mapping::new(
         Chip::image_len(kind),

@@ -1,5 +1,6 @@
 -- What every chip's layout keeps to, so that laws need not know the kinds: a few blocks at least, 256 at most, 128 on a
 -- small chip. From that the map, its sum and the journal lie in block zero. Assumes nothing.
+use Rattle.std.specs.Prelude.{Some, None}
 use mathlib.Core.Path.{◌≡◌, refl}
 use mathlib.Core.List.{List, [], ◌∷◌}
 use mathlib.Core.Bool.{Bool, true, false}
@@ -11,7 +12,6 @@ use Rattle.lists.specs.Words.{pick}
 use Rattle.lists.proofs.Orders.{by_test, not_both}
 use Rattle.chip.specs.declared.Chip.{Chip}
 use Rattle.chip.specs.declared.Chip.TheVariants.{Kib128, Kib512, Mib1}
-use Rattle.chip.specs.declared.ChipOf.TheVariants.{Known, Unknown}
 use Rattle.chip.specs.Figures.{Layout, journal_at, slot_len, layout_of, block_len, virtuals, small_item, map_len, image_len, header_len, chips, among, from_len}
 
 pub record Sound (l : Layout) : Type 0 where
@@ -36,29 +36,29 @@ pub map_fits : (l : Layout) → Sound l → map_len l + 2 ≤ block_len
 map_fits l s = omega (arith, slot_fits l s)
 
 -- a chip's own length leads back to it
-pub from_own : (k : Chip) → from_len (image_len (layout_of k)) ≡ Known k
+pub from_own : (k : Chip) → from_len (image_len (layout_of k)) ≡ Some k
 unfolding from_len
 from_own Kib128 = refl
 from_own Kib512 = refl
 from_own Mib1 = refl
 
-among_is : (n : ℕ) (k : Chip) (ks : List Chip) → among n ks ≡ Known k → n ≡ image_len (layout_of k)
+among_is : (n : ℕ) (k : Chip) (ks : List Chip) → among n ks ≡ Some k → n ≡ image_len (layout_of k)
 among_is n k [] q = let z : ◌≡◌ {A = ℕ} 0 1 = cc in absurd (omega arith)
 among_is n k (x ∷ xs) q =
     by_test (eqb n (image_len (layout_of x)))
     (λ t.
-    let d : Known x ≡ Known k = rw t at q in
+    let d : Some x ≡ Some k = rw t at q in
     let c : x ≡ k = cc in
     rw (← c) (eqb-true n (image_len (layout_of x)) t))
     (λ t. among_is n k xs (rw t at q))
 
 -- a length that leads to a chip is that chip's
-pub from_is : (n : ℕ) (k : Chip) → from_len n ≡ Known k → n ≡ image_len (layout_of k)
+pub from_is : (n : ℕ) (k : Chip) → from_len n ≡ Some k → n ≡ image_len (layout_of k)
 unfolding from_len
 from_is n k e = among_is n k chips e
 
 -- a length that is no chip's leads to none
-pub from_none : (n : ℕ) → ((k : Chip) → n ≡ image_len (layout_of k) → ⊥) → from_len n ≡ Unknown
+pub from_none : (n : ℕ) → ((k : Chip) → n ≡ image_len (layout_of k) → ⊥) → from_len n ≡ None
 unfolding from_len
 from_none n h =
     rw (
@@ -68,5 +68,5 @@ from_none n h =
     )
 
 -- as one that is less than a block
-pub from_short : (n : ℕ) → n < block_len → from_len n ≡ Unknown
+pub from_short : (n : ℕ) → n < block_len → from_len n ≡ None
 from_short n h = from_none n (λ k e. omega (arith, (sound k).some))

@@ -1,11 +1,9 @@
 -- The figures of a chip, from 01, "The three chips". A layout, P and whether it is large, carries them all, so that what
 -- holds of small chips can be said of every P; the kinds of chip name three layouts. Assumes nothing.
-use Rattle.std.specs.Prelude.{Bool, true, false, List, [], ◌∷◌, ℕ, ◌+◌, ◌-◌, ◌*◌, ◌/◌, eqb}
+use Rattle.std.specs.Prelude.{Bool, true, false, List, [], ◌∷◌, ℕ, ◌+◌, ◌-◌, ◌*◌, ◌/◌, eqb, Option, Some, None}
 use Rattle.lists.specs.Words.{pick}
 use Rattle.chip.specs.declared.Chip.{Chip}
 use Rattle.chip.specs.declared.Chip.TheVariants.{Kib128, Kib512, Mib1}
-use Rattle.chip.specs.declared.ChipOf.{ChipOf}
-use Rattle.chip.specs.declared.ChipOf.TheVariants.{Known, Unknown}
 
 -- "P physical blocks"; "the first two are small, the third large"
 pub record Layout : Type 0 where
@@ -90,15 +88,15 @@ abbrev pub chips : List Chip
 chips = Kib128 ∷ Kib512 ∷ Mib1 ∷ []
 
 -- the first of some chips that has this length
-abbrev pub among : ℕ → List Chip → ChipOf
-among len [] = Unknown
-among len (k ∷ ks) = pick (eqb len (image_len (layout_of k))) (Known k) (among len ks)
+abbrev pub among : ℕ → List Chip → Option Chip
+among len [] = None
+among len (k ∷ ks) = pick (eqb len (image_len (layout_of k))) (Some k) (among len ks)
 
 -- the chip of a length
-unfoldable pub from_len : ℕ → ChipOf
+unfoldable pub from_len : ℕ → Option Chip
 from_len len = among len chips
 
 -- a value for the chip, or another where there is none
-abbrev pub by_chip {ℓ} : {X : Type ℓ} → ChipOf → (Chip → X) → X → X
-by_chip (Known k) f x = f k
-by_chip Unknown f x = x
+abbrev pub by_chip {ℓ} : {X : Type ℓ} → Option Chip → (Chip → X) → X → X
+by_chip (Some k) f x = f k
+by_chip None f x = x

@@ -5,22 +5,17 @@ ghost use Rattle.std.specs.Prelude.{◌≡◌, ◌+◌, ◌<◌, ◌≤◌};
 ghost use Rattle.chip.specs.Figures.{layout_of, block_len, records, image_len, virtuals, item_len, map_len, journal_at, slot_count, save_len, from_len};
 
 // The kinds of chip.
-#[derive(Clone, Copy)]
+#[derive(Clone, Copy, PartialEq, Eq)]
 pub enum Chip {
     Kib128,
     Kib512,
     Mib1,
 }
 
-// The chip that a length belongs to, if there is one.
-#[derive(Clone, Copy)]
-pub enum ChipOf {
-    Known(Chip),
-    Unknown,
-}
-
 // The figures of a chip, each written down here and nowhere else in the code.
 impl Chip {
+    const ALL: [Chip; 3] = [Chip::Kib128, Chip::Kib512, Chip::Mib1];
+
     pub const BLOCK: usize = 0x1000;
 
     pub const SECTOR: usize = 0x200;
@@ -58,8 +53,7 @@ impl Chip {
         ensures { result ≡ (layout_of kind).large }
     {
         match kind {
-            Chip::Kib128 => false,
-            Chip::Kib512 => false,
+            Chip::Kib128 | Chip::Kib512 => false,
             Chip::Mib1 => true,
         }
     }
@@ -78,22 +72,16 @@ impl Chip {
         Chip::physical_blocks(kind) * Chip::BLOCK
     }
 
-    pub fn from_len(len: usize) -> ChipOf
+    // The chip that a length belongs to, if there is one.
+    pub fn from_len(len: usize) -> Option<Chip>
         ensures { result ≡ from_len len }
     {
-        let first = Chip::image_len(Chip::Kib128);
-        if len == first {
-            return ChipOf::Known(Chip::Kib128);
+        for kind in Chip::ALL {
+            if len == Chip::image_len(kind) {
+                return Some(kind);
+            }
         }
-        let second = Chip::image_len(Chip::Kib512);
-        if len == second {
-            return ChipOf::Known(Chip::Kib512);
-        }
-        let third = Chip::image_len(Chip::Mib1);
-        if len == third {
-            return ChipOf::Known(Chip::Mib1);
-        }
-        ChipOf::Unknown
+        None
     }
 
     // The bytes of an item.

@@ -15,11 +15,7 @@ use mapping::{Block, Condition, Mapping};
 fn is_changed(condition: Condition) -> bool
     ensures { result ≡ is_changed condition }
 {
-    match condition {
-        Condition::Free => false,
-        Condition::Clean => false,
-        Condition::Changed => true,
-    }
+    condition == Condition::Changed
 }
 
 // The ticket of sector j of a block: of its bytes where the block was changed, and else the stored one.
@@ -27,12 +23,9 @@ fn new_ticket(image: &[u8], b: Block, j: usize, stored: u8) -> u8
     requires { (j < sectors) × (b.physical.0 * block_len + block_len ≤ length image.now) }
     ensures { result ≡ pick (is_changed b.condition) (ticket_in image.now b.physical.0 j) stored }
 {
-    let condition = b.condition;
-    if is_changed(condition) {
-        let number = b.physical;
-        let at = tickets::sector_place(number, j);
-        let end = at + Chip::SECTOR;
-        return crc16::ticket(&image[at..end]);
+    if is_changed(b.condition) {
+        let at = tickets::sector_place(b.physical, j);
+        return crc16::ticket(&image[at..at + Chip::SECTOR]);
     }
     stored
 }
@@ -46,12 +39,9 @@ fn new_tickets(image: &[u8], m: Mapping, kind: Chip) -> [u8; Chip::RECORDS * Chi
     if Chip::is_large(kind) {
         return tickets;
     }
-    let n = Chip::virtual_blocks(kind) * Chip::SECTORS;
-    let mut s: usize = 0;
-    while s < n {
+    for s in 0..Chip::virtual_blocks(kind) * Chip::SECTORS {
         let b = m.blocks[s / Chip::SECTORS];
         tickets[s] = new_ticket(image, b, s % Chip::SECTORS, tickets[s]);
-        s += 1;
     }
     tickets
 }
@@ -62,8 +52,7 @@ fn clean_condition(condition: Condition) -> Condition
 {
     match condition {
         Condition::Free => Condition::Free,
-        Condition::Clean => Condition::Clean,
-        Condition::Changed => Condition::Clean,
+        Condition::Clean | Condition::Changed => Condition::Clean,
     }
 }
 
@@ -71,12 +60,9 @@ fn clean_condition(condition: Condition) -> Condition
 fn clean_block(b: Block) -> Block
     ensures { result ≡ cleaned b }
 {
-    let number = b.physical;
-    let condition = b.condition;
     Block {
-        physical: number,
-        count: b.count,
-        condition: clean_condition(condition),
+        condition: clean_condition(b.condition),
+        ..b
     }
 }
 
@@ -84,18 +70,15 @@ fn clean_block(b: Block) -> Block
 fn clean_blocks(m: Mapping, kind: Chip) -> [Block; Chip::RECORDS]
     ensures { result ≡ tabulate (settled_record (layout_of kind) m) records }
 {
-    let v = Chip::virtual_blocks(kind);
     let mut blocks = m.blocks;
-    let mut i: usize = 0;
-    while i < v {
-        let b = blocks[i];
-        blocks[i] = clean_block(b);
-        i += 1;
+    for b in &mut blocks[..Chip::virtual_blocks(kind)] {
+        *b = clean_block(*b);
     }
     blocks
 }
 
 // Commits to an image of this chip: the mapping after it, with which block zero is stored. Data blocks are only read.
+#[tactic(auto, unfolding(crate::specs::Committed::committed))]
 pub fn commit_on(image: &mut [u8], m: Mapping, kind: Chip) -> Mapping
     requires { Lies (layout_of kind) m image.old }
     ensures value { result ≡ committed (layout_of kind) image.old m }

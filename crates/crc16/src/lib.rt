@@ -15,11 +15,9 @@ fn bit_step(s: u16) -> u16
 fn byte_step(s: u16, b: u8) -> u16
     ensures { result ≡ byte_step s b }
 {
-    let mut x = s ^ (b as u16);
-    let mut k: usize = 0;
-    while k < 8 {
+    let mut x = s ^ u16::from(b);
+    for _ in 0usize..8 {
         x = bit_step(x);
-        k += 1;
     }
     x
 }
@@ -29,10 +27,8 @@ fn crc16_from(start: u16, data: &[u8]) -> u16
     ensures { result ≡ crc_from start «data».now }
 {
     let mut s = start;
-    let mut i: usize = 0;
-    while i < data.len() {
-        s = byte_step(s, data[i]);
-        i += 1;
+    for b in data {
+        s = byte_step(s, *b);
     }
     s
 }
@@ -48,6 +44,6 @@ pub fn crc16_ninty(data: &[u8]) -> u16
 pub fn ticket(sector: &[u8]) -> u8
     ensures { result ≡ ticket_of (crc16 sector.now) }
 {
-    let sum = crc16_ninty(sector);
-    ((sum % 256) as u8) ^ ((sum / 256) as u8)
+    let [low, high] = crc16_ninty(sector).to_le_bytes();
+    low ^ high
 }

@@ -2,12 +2,13 @@
 // a mapping one that fits no image.
 #![tactic(auto)]
 
-ghost use Rattle.std.specs.Prelude.{◌≡◌, map};
+ghost use Rattle.std.specs.Prelude.{◌≡◌};
 ghost use Rattle.crossing.specs.Crossing.{condition_no, condition_of, block_c, block_from_c, known, to_c, from_c, answer_c, answered, outcome_c};
 
 use answers::Answer;
 use chip::Chip;
 use mapping::{Block, Condition, Mapping, Outcome, Physical};
+use std::array;
 
 // A block's record: lw_block.
 #[repr(C)]
@@ -67,140 +68,100 @@ fn condition_number(c: Condition) -> u8
 fn condition_of(n: u8) -> Condition
     ensures { result ≡ condition_of n }
 {
-    if CBlock::CHANGED <= n {
-        return Condition::Changed;
+    match n {
+        CBlock::FREE => Condition::Free,
+        CBlock::CLEAN => Condition::Clean,
+        _ => Condition::Changed,
     }
-    if n == CBlock::CLEAN {
-        return Condition::Clean;
-    }
-    Condition::Free
 }
 
 // A block's record on its way out.
-fn block_to_c(b: Block) -> CBlock
-    ensures { result ≡ block_c b }
-{
-    let c = b.condition;
-    let condition = condition_number(c);
-    CBlock {
-        physical: b.physical.0,
-        count: b.count,
-        condition: condition,
+impl From<Block> for CBlock {
+    ghost from_gives = { λ b c. c ≡ block_c b };
+
+    fn from(b: Block) -> CBlock {
+        CBlock {
+            physical: b.physical.0,
+            count: b.count,
+            condition: condition_number(b.condition),
+        }
     }
 }
 
 // A block's record on its way in.
-fn block_from_c(b: CBlock) -> Block
-    ensures { result ≡ block_from_c b }
-{
-    let condition = condition_of(b.condition);
-    Block {
-        physical: Physical(b.physical),
-        count: b.count,
-        condition: condition,
-    }
-}
+impl From<CBlock> for Block {
+    ghost from_gives = { λ c b. b ≡ block_from_c c };
 
-// The records of a mapping on their way out.
-fn blocks_to_c(from: [Block; Chip::RECORDS]) -> [CBlock; Chip::RECORDS]
-    ensures { result ≡ map block_c from }
-{
-    let none = CBlock {
-        physical: 0,
-        count: 0,
-        condition: CBlock::FREE,
-    };
-    let mut blocks = [none; Chip::RECORDS];
-    let mut i: usize = 0;
-    while i < Chip::RECORDS {
-        let b = from[i];
-        blocks[i] = block_to_c(b);
-        i += 1;
+    fn from(c: CBlock) -> Block {
+        Block {
+            physical: Physical(c.physical),
+            count: c.count,
+            condition: condition_of(c.condition),
+        }
     }
-    blocks
-}
-
-// The records of a mapping on their way in.
-fn blocks_from_c(from: [CBlock; Chip::RECORDS]) -> [Block; Chip::RECORDS]
-    ensures { result ≡ map block_from_c from }
-{
-    let none = Block {
-        physical: Physical(0),
-        count: 0,
-        condition: Condition::Free,
-    };
-    let mut blocks = [none; Chip::RECORDS];
-    let mut i: usize = 0;
-    while i < Chip::RECORDS {
-        let b = from[i];
-        blocks[i] = block_from_c(b);
-        i += 1;
-    }
-    blocks
 }
 
 // Whether each condition byte, of the records past V too, is a condition.
-fn is_known(from: [CBlock; Chip::RECORDS]) -> bool
-    ensures { result ≡ known from }
+#[tactic(auto, using(lists::proofs::Tests::all_more), unfolding(lists::specs::Words::all))]
+fn is_known(from: &[CBlock; Chip::RECORDS]) -> bool
+    ensures { result ≡ known from.now }
 {
     let mut ok = true;
-    let mut i: usize = 0;
-    while i < Chip::RECORDS {
-        let b = from[i];
-        ok = ok & (b.condition <= CBlock::CHANGED);
-        i += 1;
+    for b in from {
+        ok &= b.condition <= CBlock::CHANGED;
     }
     ok
 }
 
 // A mapping on its way out.
-pub fn to_c(m: Mapping) -> CMapping
-    ensures { result ≡ to_c m }
-{
-    let from = m.blocks;
-    let blocks = blocks_to_c(from);
-    let tickets = m.tickets;
-    CMapping {
-        len: m.image_len(),
-        blocks: blocks,
-        tickets: tickets,
+impl From<Mapping> for CMapping {
+    ghost from_gives = { λ m c. c ≡ to_c m };
+
+    fn from(m: Mapping) -> CMapping {
+        let len = m.image_len();
+        let blocks = array::from_fn(|i| CBlock::from(m.blocks[i]));
+        let tickets = m.tickets;
+        CMapping {
+            len,
+            blocks,
+            tickets,
+        }
     }
 }
 
 // A mapping on its way in: the blank one, which fits no image, where a condition byte is no condition.
-pub fn from_c(c: CMapping) -> Mapping
-    ensures { result ≡ from_c c }
-{
-    let from = c.blocks;
-    if !is_known(from) {
-        return Mapping::blank();
+impl From<CMapping> for Mapping {
+    ghost from_gives = { λ c m. m ≡ from_c c };
+
+    fn from(c: CMapping) -> Mapping {
+        if !is_known(&c.blocks) {
+            return Mapping::blank();
+        }
+        let blocks = array::from_fn(|i| Block::from(c.blocks[i]));
+        let tickets = c.tickets;
+        Mapping::new(c.len, blocks, tickets)
     }
-    let blocks = blocks_from_c(from);
-    let tickets = c.tickets;
-    Mapping::new(c.len, blocks, tickets)
 }
 
 // An answer on its way out.
-pub fn answer_to_c(a: Answer) -> CAnswer
-    ensures { result ≡ answer_c a }
-{
-    let number = a.number();
-    let place = a.place();
-    CAnswer {
-        number: number,
-        place: place,
+impl From<Answer> for CAnswer {
+    ghost from_gives = { λ a c. c ≡ answer_c a };
+
+    fn from(a: Answer) -> CAnswer {
+        CAnswer {
+            number: a.number(),
+            place: a.place(),
+        }
     }
 }
 
 // An answer with a mapping that stays as it came.
-pub fn answered(a: Answer, c: CMapping) -> COutcome
-    ensures { result ≡ answered a c }
+pub fn answered(a: Answer, mapping: CMapping) -> COutcome
+    ensures { result ≡ answered a mapping }
 {
-    let mapping = c;
-    let answer = answer_to_c(a);
     COutcome {
-        answer: answer,
-        mapping: mapping,
+        answer: CAnswer::from(a),
+        mapping,
     }
 }
 
@@ -208,10 +169,8 @@ pub fn answered(a: Answer, c: CMapping) -> COutcome
 pub fn outcome_to_c(o: Outcome, c: CMapping) -> COutcome
     ensures { result ≡ outcome_c o c }
 {
-    let a = o.answer;
-    if a.number() == 0 {
-        let m = o.mapping;
-        return answered(a, to_c(m));
+    if o.answer == Answer::Accepted {
+        return answered(o.answer, CMapping::from(o.mapping));
     }
-    answered(a, c)
+    answered(o.answer, c)
 }

@@ -1,6 +1,7 @@
 -- What steps 1 to 6 accept is a mapping in good order. An accepted outcome comes through every step: the map's mapping is
 -- in good order by step 3, each entry of the journal keeps it so, and step 6 adds that the reserved block is free.
 -- Assumes nothing.
+use Rattle.std.specs.Prelude.{Option, Some, None}
 use mathlib.Core.Path.{◌≡◌, refl, ap, subst, ◌∙◌}
 use mathlib.Core.Bool.{Bool, true, false}
 use mathlib.Core.List.{List, [], ◌∷◌}
@@ -12,14 +13,11 @@ use lib.ListN.{length}
 use Rattle.lists.specs.Words.{pick}
 use Rattle.lists.proofs.Tests.{and_both}
 use Rattle.lists.proofs.Windows.{length-window}
-use Rattle.chip.specs.declared.ChipOf.{ChipOf}
-use Rattle.chip.specs.declared.ChipOf.TheVariants.{Known, Unknown}
+use Rattle.chip.specs.declared.Chip.{Chip}
 use Rattle.chip.specs.Figures.{Layout, layout_of, reserved, sectors, block_len, slot_len, slot_count, journal_at, from_len, by_chip}
 use Rattle.chip.proofs.Layouts.{Sound, sound, map_fits}
 use Rattle.answers.specs.declared.Answer.{Answer}
 use Rattle.answers.specs.declared.Answer.TheVariants.{Accepted, WrongLength, WrongMapSum, BadNumber, CopiesDiffer, BadEntry, ReservedInUse}
-use Rattle.answers.specs.declared.Found.{Found}
-use Rattle.answers.specs.declared.Found.TheVariants.{At, Nothing}
 use Rattle.mapping.specs.declared.Mapping.{Mapping}
 use Rattle.mapping.specs.declared.Outcome.{Outcome}
 use Rattle.mapping.specs.Fits.{each_once, reserved_free, fits_as}
@@ -49,15 +47,15 @@ pick_accepted true o a m r e = (refl, e)
 pick_accepted false o a m r e = absurd (not_refused a m r e)
 
 found_accepted
-    : (f : Found) (a : ℕ → Answer) (o : Outcome) (m : Mapping)
+    : (f : Option ℕ) (a : ℕ → Answer) (o : Outcome) (m : Mapping)
     → ((n : ℕ) → number_of (a n) ≡ 0 → ⊥) → unless_found f a o ≡ outcome Accepted m
-    → (f ≡ Nothing) × (o ≡ outcome Accepted m)
-found_accepted (At n) a o m r e = absurd (not_refused (a n) m (r n) e)
-found_accepted Nothing a o m r e = (refl, e)
+    → (f ≡ None) × (o ≡ outcome Accepted m)
+found_accepted (Some n) a o m r e = absurd (not_refused (a n) m (r n) e)
+found_accepted None a o m r e = (refl, e)
 
-torn_accepted : (f : Found) (m n : Mapping) → unless_torn f m ≡ outcome Accepted n → m ≡ n
-torn_accepted (At k) m n e = absurd (not_refused (CopiesDiffer k) n (λ d. omega arith) e)
-torn_accepted Nothing m n e = ap (λ (o : Outcome). o.mapping) e
+torn_accepted : (f : Option ℕ) (m n : Mapping) → unless_torn f m ≡ outcome Accepted n → m ≡ n
+torn_accepted (Some k) m n e = absurd (not_refused (CopiesDiffer k) n (λ d. omega arith) e)
+torn_accepted None m n e = ap (λ (o : Outcome). o.mapping) e
 
 then_accepted
     : (o : Outcome) (next : Mapping → Outcome) (m : Mapping) → and_then o next ≡ outcome Accepted m
@@ -107,7 +105,7 @@ module _ (l : Layout) (s : Sound l) (z : List ℕ) (size : block_len ≤ length 
 
 -- entries of 8 tickets, replayed
 pub replay_opened
-    : (l : Layout) (m : Mapping) (k : ℕ) (es : List Entry) (torn : Found) (n : Mapping)
+    : (l : Layout) (m : Mapping) (k : ℕ) (es : List Entry) (torn : Option ℕ) (n : Mapping)
     → Opened l m → Eights es → replay l m k es torn ≡ outcome Accepted n → Opened l n
 unfolding replay
 replay_opened l m k [] torn n o none e = subst (λ (x : Mapping). Opened l x) (torn_accepted torn m n e) o
@@ -153,13 +151,13 @@ unfolding steps1to6
 accepted_as z n size m e = go (from_len n) refl e
   where
     go
-        : (c : ChipOf) → from_len n ≡ c
+        : (c : Option Chip) → from_len n ≡ c
         → by_chip c (λ k. steps2to6 (layout_of k) z) (refused WrongLength) ≡ outcome Accepted m → OpenedAs n m
-    go (Known k) p d =
+    go (Some k) p d =
         record {
           chip = k;
           known = p;
           opened = (accepted_opened (layout_of k) (sound k) z size m d).0;
           fitting = accepted_fits (layout_of k) (sound k) z size m d;
         }
-    go Unknown p d = absurd (not_refused WrongLength m (λ x. omega arith) d)
+    go None p d = absurd (not_refused WrongLength m (λ x. omega arith) d)

@@ -1,5 +1,5 @@
-pub mod Counts
 pub mod Copies
+pub mod Chunks
 pub mod Slots
 pub mod Turns
 pub mod Relational

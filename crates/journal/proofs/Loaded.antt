@@ -1,6 +1,7 @@
 -- The mapping that the map holds is in good order once step 3 finds no bad number: a search that finds nothing means that
 -- each number is placed, and a table's elements are the items, of which none is changed and no free one has tickets. Past
 -- V the table holds blank records. Assumes nothing.
+use Rattle.std.specs.Prelude.{None}
 use mathlib.Core.Path.{◌≡◌, refl, sym, ap, ◌∙◌}
 use mathlib.Core.Bool.{Bool, true, false, not, and-false}
 use mathlib.Core.List.{List}
@@ -17,7 +18,6 @@ use Rattle.chip.specs.Figures.{Layout, virtuals, sectors, in_use_bit, records}
 use Rattle.chip.proofs.Layouts.{Sound}
 use Rattle.mapping.specs.declared.Block.{Block}
 use Rattle.mapping.specs.declared.Condition.TheVariants.{Free, Clean, Changed}
-use Rattle.answers.specs.declared.Found.TheVariants.{Nothing}
 use Rattle.mapping.specs.declared.Mapping.{Mapping}
 use Rattle.mapping.specs.Blocks.{is_free, no_block, block_at}
 use Rattle.mapping.specs.Fits.{placed, each_once}
@@ -28,7 +28,7 @@ use Rattle.block_map.proofs.Maps.{no_tickets}
 use Rattle.journal.specs.Opened.{Opened}
 
 -- step 3 finds no number where all are placed
-none_once : (l : Layout) (m : Mapping) → bad_number l m ≡ Nothing → each_once l m ≡ true
+none_once : (l : Layout) (m : Mapping) → bad_number l m ≡ None → each_once l m ≡ true
 unfolding bad_number
 none_once l m e =
     all_by (placed l.p m) (virtuals l)
@@ -91,7 +91,7 @@ module _ (l : Layout) (s : Sound l) (z : List ℕ) where
       go false = refl
 
   -- step 3 accepts only mappings in good order
-  pub loaded_opened : bad_number l (loaded l z) ≡ Nothing → Opened l (loaded l z)
+  pub loaded_opened : bad_number l (loaded l z) ≡ None → Opened l (loaded l z)
   unfolding loaded
   loaded_opened e =
       record {

@@ -1,18 +1,16 @@
 -- "open's refusal returns the blank mapping": each step either accepts, or refuses by `refused`, or hands on an outcome of
 -- which this holds, so that it holds of steps 1 to 6. Assumes nothing.
+use Rattle.std.specs.Prelude.{Option, Some, None}
 use mathlib.Core.Path.{◌≡◌, refl}
 use mathlib.Core.Bool.{Bool, true, false}
 use mathlib.Core.List.{List, [], ◌∷◌}
 use Prim.Native.Nat.{ℕ, ◌+◌}
 use lib.Dec.{eqb}
 use Rattle.lists.specs.Words.{pick}
-use Rattle.chip.specs.declared.ChipOf.{ChipOf}
-use Rattle.chip.specs.declared.ChipOf.TheVariants.{Known, Unknown}
+use Rattle.chip.specs.declared.Chip.{Chip}
 use Rattle.chip.specs.Figures.{Layout, layout_of, reserved, slot_count, from_len, by_chip}
 use Rattle.answers.specs.declared.Answer.{Answer}
 use Rattle.answers.specs.declared.Answer.TheVariants.{Accepted, WrongLength, WrongMapSum, BadNumber, CopiesDiffer, BadEntry, ReservedInUse}
-use Rattle.answers.specs.declared.Found.{Found}
-use Rattle.answers.specs.declared.Found.TheVariants.{At, Nothing}
 use Rattle.mapping.specs.declared.Mapping.{Mapping}
 use Rattle.mapping.specs.declared.Outcome.{Outcome}
 use Rattle.mapping.specs.Blocks.{blank}
@@ -43,15 +41,15 @@ pub then_blanked
     : (o : Outcome) (next : Mapping → Outcome) → Blanked o → ((m : Mapping) → Blanked (next m)) → Blanked (and_then o next)
 then_blanked o next f g = pick_blanked (eqb (number_of o.answer) 0) (next o.mapping) o (g o.mapping) f
 
-pub found_blanked : (f : Found) (a : ℕ → Answer) (o : Outcome) → Blanked o → Blanked (unless_found f a o)
-found_blanked (At n) a o g = refused_blanked (a n)
-found_blanked Nothing a o g = g
+pub found_blanked : (f : Option ℕ) (a : ℕ → Answer) (o : Outcome) → Blanked o → Blanked (unless_found f a o)
+found_blanked (Some n) a o g = refused_blanked (a n)
+found_blanked None a o g = g
 
-torn_blanked : (f : Found) (m : Mapping) → Blanked (unless_torn f m)
-torn_blanked (At k) m = refused_blanked (CopiesDiffer k)
-torn_blanked Nothing m = accepted_blanked m
+torn_blanked : (f : Option ℕ) (m : Mapping) → Blanked (unless_torn f m)
+torn_blanked (Some k) m = refused_blanked (CopiesDiffer k)
+torn_blanked None m = accepted_blanked m
 
-replay_blanked : (l : Layout) (m : Mapping) (k : ℕ) (es : List Entry) (torn : Found) → Blanked (replay l m k es torn)
+replay_blanked : (l : Layout) (m : Mapping) (k : ℕ) (es : List Entry) (torn : Option ℕ) → Blanked (replay l m k es torn)
 unfolding replay
 replay_blanked l m k [] torn = torn_blanked torn m
 replay_blanked l m k (e ∷ es) torn =
@@ -83,6 +81,6 @@ pub blank_1to6 : (z : List ℕ) (n : ℕ) → Blanked (steps1to6 z n)
 unfolding steps1to6
 blank_1to6 z n = go (from_len n)
   where
-    go : (c : ChipOf) → Blanked (by_chip c (λ k. steps2to6 (layout_of k) z) (refused WrongLength))
-    go (Known k) = blank_2to6 (layout_of k) z
-    go Unknown = refused_blanked WrongLength
+    go : (c : Option Chip) → Blanked (by_chip c (λ k. steps2to6 (layout_of k) z) (refused WrongLength))
+    go (Some k) = blank_2to6 (layout_of k) z
+    go None = refused_blanked WrongLength

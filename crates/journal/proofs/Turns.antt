@@ -1,16 +1,16 @@
--- A turn of the replay's loop, from what the loop holds when it begins: each way out of it, with the outcome of the whole
--- journal, and what it leaves for the next turn. The laws of `Slots` with the facts that every turn shares said once. Assumes
--- nothing.
-use mathlib.Core.Path.{◌≡◌, sym, ap, ◌∙◌}
-use mathlib.Core.Bool.{Bool, true, false}
-use mathlib.Core.List.{List}
-use Prim.Native.Nat.{ℕ, ◌+◌, ◌-◌, ◌*◌, ◌<◌}
+-- A turn of the replay's loop over the slots: what the slots from k on make of m, if none is left, if the copies of slot k
+-- differ, if the journal ends there, if its entry is refused, and if it is applied. The laws of `Slots`, as the code asks them.
+-- Assumes nothing.
+use mathlib.Core.Path.{◌≡◌, refl, sym, ap, ◌∙◌}
+use mathlib.Core.Bool.{true, false}
+use mathlib.Core.List.{List, []}
+use Prim.Native.Nat.{ℕ, ◌+◌, ◌-◌, ◌≤◌, ◌<◌}
 use native.Mathlib.Omega.{arith}
-use lib.ListN.{get_or, set, take, drop}
-use Rattle.lists.specs.Words.{rep}
-use Rattle.chip.specs.Figures.{Layout, sectors, erased, slot_len, journal_at}
+use lib.ListN.{length, get_or, set}
+use Rattle.lists.specs.Words.{tabulate, rep}
+use Rattle.lists.proofs.Tabulate.{length-tabulate, get_or-tabulate}
+use Rattle.chip.specs.Figures.{Layout, sectors, erased, slot_count}
 use Rattle.answers.specs.declared.Answer.TheVariants.{Accepted, CopiesDiffer, BadEntry}
-use Rattle.mapping.specs.declared.Block.{Block}
 use Rattle.mapping.specs.declared.Condition.TheVariants.{Free, Clean}
 use Rattle.mapping.specs.declared.Mapping.{Mapping}
 use Rattle.mapping.specs.declared.Outcome.{Outcome}
@@ -19,68 +19,58 @@ use Rattle.mapping.specs.Outcomes.{outcome, refused}
 use Rattle.journal.specs.declared.Entry.{Entry}
 use Rattle.journal.specs.Entries.{slot_at, twins, entry_of, allowed, applied}
 use Rattle.journal.specs.Replay.{journal_from}
-use Rattle.journal.proofs.Slots.{slot_torn, slot_ends, slot_refused, slot_passed, applied_large, applied_small}
+use Rattle.journal.proofs.Slots.{slot_torn, slot_ends, slot_refused, slot_passed, slots_end, applied_large, applied_small}
 
--- slot k of a journal that starts at a, as the code lends it
-abbrev pub lent : List ℕ → ℕ → ℕ → List ℕ
-lent z a k = take (a + k * slot_len + slot_len - (a + k * slot_len)) (drop (a + k * slot_len) z)
+-- all slots
+abbrev pub all_slots : Layout → List ℕ → List (List ℕ)
+all_slots l z = tabulate (slot_at l z) (slot_count l)
 
--- slot k is one of n, and j is what the slots from k on make of m
-pub record Turn (l : Layout) (m : Mapping) (z : List ℕ) (a k n : ℕ) (j : Outcome) : Type 0 where
-  pub start : a ≡ journal_at l
-  pub more : k < n
-  pub rest : j ≡ journal_from l m z k (n - k)
+module _ (l : Layout) (m : Mapping) (z : List ℕ) (k : ℕ) where
+  abbrev s : List ℕ
+  s = get_or (all_slots l z) k []
 
-module _ {l : Layout} {m : Mapping} {z : List ℕ} {a k n : ℕ} {j : Outcome} (turn : Turn l m z a k n j) where
-  slot : lent z a k ≡ slot_at l z k
-  slot =
-      let d : a + k * slot_len + slot_len - (a + k * slot_len) ≡ slot_len = omega arith in
-      rw (d, turn.start)
+  abbrev rest : Mapping → ℕ → Outcome
+  rest n i = journal_from l n z i (slot_count l - i)
 
-  pub torn : twins (lent z a k) ≡ false → refused (CopiesDiffer k) ≡ j
-  torn t = slot_torn l m z (lent z a k) k n slot turn.more t ∙ sym turn.rest
+  inside : k < length (all_slots l z) → k < slot_count l
+  inside h = omega (arith, h, length-tabulate (slot_at l z) (slot_count l))
 
-  pub ended : twins (lent z a k) ≡ true → get_or (lent z a k) 0 0 ≡ erased → outcome Accepted m ≡ j
-  ended t f = slot_ends l m z (lent z a k) k n slot turn.more t f ∙ sym turn.rest
+  slot : k < length (all_slots l z) → s ≡ slot_at l z k
+  slot h = get_or-tabulate (slot_at l z) (slot_count l) k [] (inside h)
 
--- and it goes on with the entry x, whose records stand at v and w
-pub record Entered (l : Layout) (m : Mapping) (z : List ℕ) (a k n : ℕ) (j : Outcome) (x : Entry) (v w : ℕ) : Type 0 where
-  pub turn : Turn l m z a k n j
-  pub same : twins (lent z a k) ≡ true
-  pub going : get_or (lent z a k) 0 0 ≡ erased → ⊥
-  pub entry : x ≡ entry_of (lent z a k)
-  pub at_v : v ≡ x.v.0
-  pub at_w : w ≡ x.w.0
+  pub turns_out : length (all_slots l z) ≤ k → rest m k ≡ outcome Accepted m
+  turns_out h = sym (slots_end l m z k (slot_count l) (omega (arith, h, length-tabulate (slot_at l z) (slot_count l))))
 
-module _ {l : Layout} {m : Mapping} {z : List ℕ} {a k n : ℕ} {j : Outcome} {x : Entry} {v w : ℕ} (e : Entered l m z a k n j x v w) where
-  -- what the test of the entry said
-  module _ (ok : Bool) (asked : ok ≡ allowed l (block_at m v) (block_at m w) x) where
-    said : (b : Bool) → ok ≡ b → allowed l (block_at m x.v.0) (block_at m x.w.0) x ≡ b
-    said b r = sym (rw (e.at_v, e.at_w) at asked) ∙ r
+  module _ (h : k < length (all_slots l z)) where
+    pub turn_torn : twins s ≡ false → rest m k ≡ refused (CopiesDiffer k)
+    turn_torn t = sym (slot_torn l m z s k (slot_count l) (slot h) (inside h) t)
 
-    pub bad : ok ≡ false → refused (BadEntry k) ≡ j
-    bad r =
-        slot_refused l m z (lent z a k) k n (slot e.turn) e.turn.more x e.entry e.same e.going (said false r)
-        ∙ sym e.turn.rest
+    pub turn_ends : twins s ≡ true → get_or s 0 0 ≡ erased → rest m k ≡ outcome Accepted m
+    turn_ends t f = sym (slot_ends l m z s k (slot_count l) (slot h) (inside h) t f)
 
-    -- b and c are the records that are stored at w and v
-    module _
-        (r : ok ≡ true) (b c : Block)
-        (eb : b ≡ block_of x.q.0 x.d Free) (ec : c ≡ block_of x.p.0 x.c Clean) where
-      abbrev moved : Mapping
-      moved = mapping_of m.len (set (set m.blocks w b) v c) m.tickets
+    module _ (t : twins s ≡ true) (f : get_or s 0 0 ≡ erased → ⊥) where
+      abbrev x : Entry
+      x = entry_of s
 
-      goes : (y : Mapping) → y ≡ applied l m x → j ≡ journal_from l y z (k + 1) (n - (k + 1))
-      goes y q =
-          e.turn.rest
-          ∙ slot_passed l m z (lent z a k) k n (slot e.turn) e.turn.more x e.entry e.same e.going (said true r)
-          ∙ ap (λ (u : Mapping). journal_from l u z (k + 1) (n - (k + 1))) (sym q)
+      pub turn_refused : allowed l (block_at m x.v.0) (block_at m x.w.0) x ≡ false → rest m k ≡ refused (BadEntry k)
+      turn_refused r = sym (slot_refused l m z s k (slot_count l) (slot h) (inside h) x refl t f r)
 
-      pub goes_large : l.large ≡ true → j ≡ journal_from l moved z (k + 1) (n - (k + 1))
-      goes_large q = goes moved (rw (e.at_v, e.at_w) (applied_large l m x b c eb ec q))
+      module _ (r : allowed l (block_at m x.v.0) (block_at m x.w.0) x ≡ true) where
+        -- w's record and then v's are stored
+        abbrev moved : Mapping
+        moved = mapping_of m.len (set (set m.blocks x.w.0 (block_of x.q.0 x.d Free)) x.v.0 (block_of x.p.0 x.c Clean)) m.tickets
 
-      pub goes_small
-          : l.large ≡ false
-          → (y : Mapping) → y ≡ with_tickets (with_tickets moved x.w.0 (rep sectors 0)) x.v.0 x.tickets
-          → j ≡ journal_from l y z (k + 1) (n - (k + 1))
-      goes_small q y d = goes y (d ∙ rw (e.at_v, e.at_w) (applied_small l m x b c eb ec q))
+        goes : (y : Mapping) → y ≡ applied l m x → rest m k ≡ rest y (k + 1)
+        goes y q =
+            slot_passed l m z s k (slot_count l) (slot h) (inside h) x refl t f r ∙ ap (λ (u : Mapping). rest u (k + 1)) (sym q)
+
+        pub turn_large : l.large ≡ true → rest m k ≡ rest moved (k + 1)
+        turn_large q = goes moved (applied_large l m x _ _ refl refl q)
+
+        pub turn_small
+            : l.large ≡ false
+            → rest m k ≡ rest (with_tickets (with_tickets moved x.w.0 (rep sectors 0)) x.v.0 x.tickets) (k + 1)
+        turn_small q = goes _ (applied_small l m x _ _ refl refl q)
+
+-- what `replay` names
+pub ruleset turns = (turns_out, turn_refused)

@@ -1,8 +1,7 @@
 -- What a mapping that opening accepts keeps to: the numbers of 01, "Opening", step 3, its length and its two arrays; that
 -- no block has changed yet; and that free blocks, records past V and large chips are without tickets. Assumes nothing.
-use Rattle.std.specs.Prelude.{◌≡◌, true, ℕ, ◌+◌, ◌*◌, ◌≤◌, ◌<◌, length, get_or}
+use Rattle.std.specs.Prelude.{◌≡◌, true, ℕ, ◌+◌, ◌*◌, ◌≤◌, ◌<◌, length, get_or, Some}
 use Rattle.chip.specs.declared.Chip.{Chip}
-use Rattle.chip.specs.declared.ChipOf.TheVariants.{Known}
 use Rattle.chip.specs.Figures.{Layout, layout_of, virtuals, sectors, image_len, from_len, records}
 use Rattle.mapping.specs.declared.Condition.TheVariants.{Changed}
 use Rattle.mapping.specs.declared.Mapping.{Mapping}
@@ -29,6 +28,6 @@ pub record Opened (l : Layout) (m : Mapping) : Type 0 where
 -- the mapping of an image of n bytes, one of the three lengths, fits it and is in good order
 pub record OpenedAs (n : ℕ) (m : Mapping) : Type 0 where
   pub chip : Chip
-  pub known : from_len n ≡ Known chip
+  pub known : from_len n ≡ Some chip
   pub opened : Opened (layout_of chip) m
   pub fitting : fits_as (layout_of chip) m ≡ true

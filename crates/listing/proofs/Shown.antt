@@ -1,6 +1,7 @@
 -- The text drops no block and makes none up: after an accepted image each in-use block of the chip has its line, right behind
 -- the lines of those below it, and the lines are two, one for each in-use block, and one; after a refusal they are two. A
 -- number's digits hold no newline, so that newlines are counted piece by piece. Assumes nothing.
+use Rattle.std.specs.Prelude.{Option, Some, None}
 use mathlib.Core.Path.{◌≡◌, refl, sym, ap, ◌∙◌, subst}
 use mathlib.Core.Bool.{Bool, true, false, not, cond}
 use mathlib.Core.List.{List, [], ◌∷◌, ◌++◌, append_assoc, append-nil}
@@ -12,8 +13,6 @@ use Rattle.io.specs.Digits.{hex_digit_ascii}
 use Rattle.lists.specs.Words.{pick, how_many}
 use Rattle.lists.proofs.Orders.{split, by_test}
 use Rattle.chip.specs.declared.Chip.{Chip}
-use Rattle.chip.specs.declared.ChipOf.{ChipOf}
-use Rattle.chip.specs.declared.ChipOf.TheVariants.{Known, Unknown}
 use Rattle.chip.specs.declared.Chip.TheVariants.{Kib128}
 use Rattle.chip.specs.Figures.{layout_of, virtuals, reserved, image_len, from_len, by_chip}
 use Rattle.answers.specs.declared.Answer.{Answer}
@@ -64,7 +63,7 @@ line_of v b u = rw u
 -- "one block line for each in-use block going up": its line, behind the first lines and those of the blocks below it
 pub in_use_shown
     : (n : ℕ) (o : Outcome) (k : Chip) (v : ℕ)
-    → number_of o.answer ≡ 0 → from_len o.mapping.len ≡ Known k → v < virtuals (layout_of k) → free_at o.mapping v ≡ false
+    → number_of o.answer ≡ 0 → from_len o.mapping.len ≡ Some k → v < virtuals (layout_of k) → free_at o.mapping v ≡ false
     → Follows (first_lines n o.answer ++ block_lines o.mapping v)
     (field "block " v ++ (field " physical " (number_at o.mapping v) ++ (field " count " (count_at o.mapping v) ++ newline)))
     (text_of n o)
@@ -147,10 +146,10 @@ unfolding lines_of in_use_of how_many
 in_use_lines m = by_chip_lem (from_len m.len)
   where
     by_chip_lem
-        : (c : ChipOf)
+        : (c : Option Chip)
         → line_count (block_lines m (by_chip c (λ k. virtuals (layout_of k)) 0)) ≡ by_chip c (λ k. how_many (λ v. not (free_at m v)) (virtuals (layout_of k))) 0
-    by_chip_lem (Known k) = block_lines_lem m (virtuals (layout_of k))
-    by_chip_lem Unknown = block_lines_lem m 0
+    by_chip_lem (Some k) = block_lines_lem m (virtuals (layout_of k))
+    by_chip_lem None = block_lines_lem m 0
 
 -- after a refusal two lines
 pub refused_lines : (n : ℕ) (o : Outcome) → (number_of o.answer ≡ 0 → ⊥) → line_count (text_of n o) ≡ 2

@@ -16,6 +16,7 @@ use Rattle.mapping.specs.declared.Outcome.{Outcome}
 use Rattle.mapping.specs.Blocks.{block_at, is_free, in_use_of}
 use Rattle.mapping.specs.Outcomes.{refused}
 use Rattle.journal.specs.Steps.{steps1to6}
+use Rattle.listing.specs.declared.Writer.{Writer}
 
 -- "counts the bytes (stopping at 1,048,577)", one past the largest chip
 abbrev pub limit : ℕ
@@ -94,3 +95,9 @@ pub record Written (old : List ℕ) (at : ℕ) (text new : List ℕ) (end : ℕ)
   pub fits : at + length text ≤ length old
   pub stored : new ≡ splice old at text
   pub next : end ≡ at + length text
+
+-- the writer's buffer is the one that was lent, as long as before, with this text behind what it held
+pub record Grew (old : Writer) (text : List ℕ) (new : Writer) : Type 0 where
+  pub same : new.out.ghost_name ≡ old.out.ghost_name
+  pub size : length new.out.now ≡ length old.out.now
+  pub written : Written old.out.now old.at text new.out.now new.at

@@ -3,10 +3,10 @@
 
 ghost use Rattle.std.specs.Prelude.{◌≡◌, ◌++◌, ◌+◌, ◌*◌, ◌<◌, ◌≤◌, length};
 ghost use Rattle.chip.specs.Figures.{records};
-ghost use Rattle.listing.specs.Lines.{limit, counted_of, report_of, most_digits, decimal, first_lines, block_line, block_lines, lines_of, list_of, text_of, line_room, room, Written};
+ghost use Rattle.listing.specs.Lines.{limit, counted_of, report_of, most_digits, decimal, first_lines, block_line, block_lines, lines_of, list_of, text_of, line_room, room, Written, Grew};
 
 use answers::Answer;
-use chip::{Chip, ChipOf};
+use chip::Chip;
 use mapping::{Block, Mapping, Outcome, Virtual};
 
 // The count at which reading stops: one past the largest chip.
@@ -35,109 +35,109 @@ pub fn counted(total: usize, more: usize) -> usize
 fn report(zero: &[u8], len: usize) -> Outcome
     ensures { result ≡ report_of zero.now len }
 {
-    if zero.len() == Chip::BLOCK {
-        return journal::open_map(zero, len);
-    }
-    Outcome::refused(Answer::WrongLength)
+    let Some(zero) = zero.as_array() else {
+        return Outcome::refused(Answer::WrongLength);
+    };
+    Outcome::from(journal::open_map(zero, len))
 }
 
 // How many blocks may have a line; none after a refusal.
+#[tactic(auto, unfolding(crate::specs::Lines::lines_of))]
 fn lines(m: Mapping) -> usize
     ensures value { result ≡ lines_of m }
     ensures within { result < records }
 {
-    let known = Chip::from_len(m.image_len());
-    match known {
-        ChipOf::Known(kind) => Chip::virtual_blocks(kind),
-        ChipOf::Unknown => 0,
+    Chip::from_len(m.image_len()).map_or(0, Chip::virtual_blocks)
+}
+
+// The text that grows in a lent buffer: `at` is where it ends.
+#[derive(Drop)]
+struct Writer<'a> {
+    out: &'a mut [u8],
+    at: usize,
+}
+
+impl Writer<'_> {
+    // Puts a word behind the text.
+    fn word(&mut self, word: &[u8])
+        requires { self.old.at + length word.now ≤ length self.old.out.now }
+        ensures grown { Grew self.old word.now self.new }
+    {
+        let end = self.at + word.len();
+        self.out[self.at..end].copy_from_slice(word);
+        self.at = end;
     }
-}
 
-// Puts a word into the text that grows in `out` up to `at`. Like all that follow it hands back where the text ends.
-fn put_word(out: &mut [u8], at: usize, word: &[u8]) -> usize
-    requires { at + length word.now ≤ length out.old }
-    ensures { Written out.old at word.now out.new result }
-{
-    let end = at + word.len();
-    out[at..end].copy_from_slice(word);
-    end
-}
-
-// A number in decimal.
-fn put_number(out: &mut [u8], at: usize, n: usize) -> usize
-    requires { at + most_digits ≤ length out.old }
-    ensures written { Written out.old at (decimal n) out.new result }
-    ensures within { result ≤ at + most_digits }
-{
-    let mut digits = [0u8; 20];
-    let k = io::decimal(n as u64, &mut digits);
-    put_word(out, at, &digits[0..k])
-}
-
-// A word and a number.
-fn put_field(out: &mut [u8], at: usize, name: &[u8], n: usize) -> usize
-    requires { at + length name.now + most_digits ≤ length out.old }
-    ensures written { Written out.old at (name.now ++ decimal n) out.new result }
-    ensures within { result ≤ at + length name.now + most_digits }
-{
-    let from = put_word(out, at, name);
-    put_number(out, from, n)
-}
-
-// The two lines that come first.
-fn put_first(out: &mut [u8], total: usize, answer: Answer) -> usize
-    requires { line_room ≤ length out.old }
-    ensures written { Written out.old 0 (first_lines total answer) out.new result }
-    ensures within { result ≤ line_room }
-{
-    let first = put_field(out, 0, b"length ", total);
-    let second = put_field(out, first, b"\nanswer ", answer.number() as usize);
-    let third = put_field(out, second, b" place ", answer.place());
-    put_word(out, third, b"\n")
-}
-
-// The line of a block; none where it is free.
-fn put_block(out: &mut [u8], at: usize, v: Virtual, b: Block) -> usize
-    requires { at + line_room ≤ length out.old }
-    ensures written { Written out.old at (block_line v.0 b) out.new result }
-    ensures within { result ≤ at + line_room }
-{
-    let condition = b.condition;
-    if condition.is_free() {
-        return at;
+    // A number in decimal.
+    fn number(&mut self, n: usize)
+        requires { self.old.at + most_digits ≤ length self.old.out.now }
+        ensures grown { Grew self.old (decimal n) self.new }
+        ensures within { self.new.at ≤ self.old.at + most_digits }
+    {
+        let mut digits = [0u8; 20];
+        let k = io::decimal(n as u64, &mut digits);
+        self.word(&digits[0..k]);
     }
-    let first = put_field(out, at, b"block ", v.0 as usize);
-    let second = put_field(out, first, b" physical ", b.physical.0 as usize);
-    let third = put_field(out, second, b" count ", b.count as usize);
-    put_word(out, third, b"\n")
-}
 
-// The lines of the first n blocks, going up.
-fn put_blocks(out: &mut [u8], at: usize, m: Mapping, n: usize) -> usize
-    requires { (n < records) × (at + n * line_room ≤ length out.old) }
-    ensures written { Written out.old at (block_lines m n) out.new result }
-    ensures within { result ≤ at + n * line_room }
-{
-    let mut end = at;
-    let mut v: usize = 0;
-    while v < n {
-        let b = m.blocks[v];
-        end = put_block(out, end, Virtual(v as u8), b);
-        v += 1;
+    // A word and a number.
+    fn field(&mut self, name: &[u8], n: usize)
+        requires { self.old.at + length name.now + most_digits ≤ length self.old.out.now }
+        ensures grown { Grew self.old (name.now ++ decimal n) self.new }
+        ensures within { self.new.at ≤ self.old.at + length name.now + most_digits }
+    {
+        self.word(name);
+        self.number(n);
     }
-    end
-}
 
-// The lines that follow an accepted image.
-fn put_list(out: &mut [u8], at: usize, m: Mapping) -> usize
-    requires { at + records * line_room + line_room ≤ length out.old }
-    ensures { Written out.old at (list_of m) out.new result }
-{
-    let n = lines(m);
-    let used = m.in_use();
-    let blocks = put_blocks(out, at, m, n);
-    let end = put_field(out, blocks, b"in use ", used);
-    put_word(out, end, b"\n")
+    // The two lines that come first.
+    fn first_lines(&mut self, total: usize, answer: Answer)
+        requires { self.old.at + line_room ≤ length self.old.out.now }
+        ensures grown { Grew self.old (first_lines total answer) self.new }
+        ensures within { self.new.at ≤ self.old.at + line_room }
+    {
+        self.field(b"length ", total);
+        self.field(b"\nanswer ", answer.number() as usize);
+        self.field(b" place ", answer.place());
+        self.word(b"\n");
+    }
+
+    // The line of a block; none where it is free.
+    fn block(&mut self, v: Virtual, b: Block)
+        requires { self.old.at + line_room ≤ length self.old.out.now }
+        ensures grown { Grew self.old (block_line v.0 b) self.new }
+        ensures within { self.new.at ≤ self.old.at + line_room }
+    {
+        if b.condition.is_free() {
+            return;
+        }
+        self.field(b"block ", v.0 as usize);
+        self.field(b" physical ", b.physical.0 as usize);
+        self.field(b" count ", b.count as usize);
+        self.word(b"\n");
+    }
+
+    // The lines of the first n blocks, going up.
+    fn blocks(&mut self, m: Mapping, n: usize)
+        requires { (n < records) × (self.old.at + n * line_room ≤ length self.old.out.now) }
+        ensures grown { Grew self.old (block_lines m n) self.new }
+        ensures within { self.new.at ≤ self.old.at + n * line_room }
+    {
+        for v in 0..n {
+            self.block(Virtual(v as u8), m.blocks[v]);
+        }
+    }
+
+    // The lines that follow an accepted image.
+    fn list(&mut self, m: Mapping)
+        requires { self.old.at + records * line_room + line_room ≤ length self.old.out.now }
+        ensures grown { Grew self.old (list_of m) self.new }
+    {
+        let n = lines(m);
+        let used = m.in_use();
+        self.blocks(m, n);
+        self.field(b"in use ", used);
+        self.word(b"\n");
+    }
 }
 
 // All that the lister prints for an input of `total` bytes that began with `zero`: puts it at the start of `out` and hands
@@ -148,11 +148,11 @@ pub fn text(zero: &[u8], total: usize, out: &mut [u8]) -> usize
     ensures { Written out.old 0 (text_of total (report_of zero.now total)) out.new result }
 {
     let o = report(zero, total);
-    let answer = o.answer;
-    let first = put_first(out, total, answer);
-    if answer.number() != 0 {
-        return first;
+    let mut writer = Writer { out, at: 0 };
+    writer.first_lines(total, o.answer);
+    if o.answer != Answer::Accepted {
+        return writer.at;
     }
-    let m = o.mapping;
-    put_list(out, first, m)
+    writer.list(o.mapping);
+    writer.at
 }

@@ -1,6 +1,7 @@
 -- The test of number 8 holds exactly when the facts of specs/Fitted do: by the chip of the length, by `Apart`, which is the
 -- definition's test as facts, and by the pigeonholes, which give each of 1..P−1 its block. And the test of number 9 holds
 -- exactly when place and length together stay within the save. Assumes nothing.
+use Rattle.std.specs.Prelude.{Option, Some, None}
 use mathlib.Core.Path.{◌≡◌, refl, sym, ap, ◌∙◌}
 use mathlib.Core.Bool.{true, ◌&&◌}
 use Prim.Native.Nat.{ℕ, ◌+◌, ◌-◌, ◌≤◌}
@@ -11,8 +12,6 @@ use Rattle.lists.proofs.Orders.{not_both}
 use Rattle.lists.proofs.Tests.{and_left, and_right, and_both}
 use Rattle.lists.proofs.Pigeons.{onto}
 use Rattle.chip.specs.declared.Chip.{Chip}
-use Rattle.chip.specs.declared.ChipOf.{ChipOf}
-use Rattle.chip.specs.declared.ChipOf.TheVariants.{Known, Unknown}
 use Rattle.chip.specs.Figures.{layout_of, virtuals, from_len}
 use Rattle.chip.proofs.Layouts.{sound, from_is, from_own}
 use Rattle.mapping.specs.declared.Condition.{Condition}
@@ -33,7 +32,7 @@ is_free_lem Changed e = absurd (not_both e refl)
 
 module _ (n : ℕ) (m : Mapping) where
   -- by a chip of n bytes
-  as_fitted : (k : Chip) → from_len n ≡ Known k → m.len ≡ n → fits_as (layout_of k) m ≡ true → Fitted n m
+  as_fitted : (k : Chip) → from_len n ≡ Some k → m.len ≡ n → fits_as (layout_of k) m ≡ true → Fitted n m
   as_fitted k known e f =
       record {
         own = e;
@@ -65,9 +64,9 @@ module _ (n : ℕ) (m : Mapping) where
       own : fits_own m ≡ true
       own = and_right (eqb m.len n) (fits_own m) both
 
-      go : (o : ChipOf) → from_len n ≡ o → Fitted n m
-      go (Known k) e = as_fitted k e len (sym (own_known m k (ap from_len len ∙ e)) ∙ own)
-      go Unknown e = absurd (not_both own (own_unknown m (ap from_len len ∙ e)))
+      go : (o : Option Chip) → from_len n ≡ o → Fitted n m
+      go (Some k) e = as_fitted k e len (sym (own_known m k (ap from_len len ∙ e)) ∙ own)
+      go None e = absurd (not_both own (own_unknown m (ap from_len len ∙ e)))
 
   -- and back
   pub fitted_fits : Fitted n m → fits n m ≡ true

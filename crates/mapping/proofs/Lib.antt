@@ -1,3 +1,4 @@
 pub mod Onto
 pub mod Fitted
 pub mod Highs
+pub mod Walks

@@ -8,11 +8,12 @@ use native.Mathlib.Numerals.{add-one}
 use native.Mathlib.Omega.{arith}
 use borrow.Author.Tests.{eq-eqb, ne_eqb, eqb-true, le-leb, leb-true, lt-ltb, ltb-true, not-true}
 use lib.Dec.{eqb, leb, ltb}
-use lib.ListN.{get_or, set, replicate}
+use lib.ListN.{get_or, set, replicate, take, drop}
 use Rattle.lists.specs.Words.{tabulate, all, any}
 use Rattle.lists.proofs.Orders.{split, by_test, not_both, bool_ext}
 use Rattle.lists.proofs.Tests.{and_left, and_right, and_both, all_at, all_by, last, Hit, any_hit, hit_any}
 use Rattle.lists.proofs.Tabulate.{get_or-tabulate, tabulate_same, tabulate-set}
+use Rattle.lists.proofs.Windows.{get_or-window}
 use Rattle.lists.proofs.Pigeons.{onto}
 use Rattle.chip.specs.Figures.{Layout, virtuals, records}
 use Rattle.mapping.specs.declared.Mapping.{Mapping}
@@ -139,17 +140,20 @@ module _ (m : Mapping) where
         placed_by v (a.low v h) (omega (arith, a.high v h))
         (λ u b e. let d : u ≡ v = a.apart u v (omega arith) h e in omega arith))
 
-    -- the test on the flags is the definition
+    -- the test on the flags from number 1 on is the definition
     pub flags_once
         : virtuals l < records
-        → all (λ k. get_or (tabulate (appeared m (virtuals l)) records) (k + 1) false) (virtuals l) ≡ each_once l m
+        → all (λ k. get_or (take (virtuals l) (drop 1 (tabulate (appeared m (virtuals l)) records))) k false) (virtuals l) ≡ each_once l m
     flags_once few =
         bool_ext (all raised (virtuals l)) (each_once l m)
         (λ e. apart_once (seen_apart (virtuals l) (λ k h. sym (flag k h) ∙ all_at raised (virtuals l) k e h)))
         (λ e. all_by raised (virtuals l) (λ k h. flag k h ∙ apart_seen (virtuals l) (once_apart e) k h))
       where
         raised : ℕ → Bool
-        raised k = get_or (tabulate (appeared m (virtuals l)) records) (k + 1) false
+        raised k = get_or (take (virtuals l) (drop 1 (tabulate (appeared m (virtuals l)) records))) k false
 
         flag : (k : ℕ) → k < virtuals l → raised k ≡ appeared m (virtuals l) (suc k)
-        flag k h = get_or-tabulate (appeared m (virtuals l)) records (k + 1) false (omega arith) ∙ rw (add-one k)
+        flag k h =
+            get_or-window 1 (virtuals l) _ k false h
+            ∙ get_or-tabulate (appeared m (virtuals l)) records (1 + k) false (omega arith)
+            ∙ ap (appeared m (virtuals l)) (omega arith)

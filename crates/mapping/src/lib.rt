@@ -10,13 +10,13 @@ ghost use Rattle.chip.specs.Figures.{layout_of, virtuals, records};
 ghost use Rattle.mapping.specs.Blocks.{is_free, free_at, blank, mapping_of, with_tickets, len_of, in_use_of};
 ghost use Rattle.mapping.specs.Fits.{appeared, each_once, reserved_free, fits_own, fits};
 ghost use Rattle.mapping.specs.Limits.{in_save, high_count_on, high_count};
-ghost use Rattle.mapping.specs.Outcomes.{outcome, refused};
+ghost use Rattle.mapping.specs.Outcomes.{outcome, refused, outcome_of};
 
-use answers::{Answer, Found};
-use chip::{Chip, ChipOf};
+use answers::Answer;
+use chip::Chip;
 
 // The number of a virtual block.
-#[derive(Clone, Copy)]
+#[derive(Clone, Copy, PartialEq, Eq, Default)]
 pub struct Virtual(pub u8);
 
 impl Virtual {
@@ -30,12 +30,13 @@ impl Virtual {
 }
 
 // The number of a physical block.
-#[derive(Clone, Copy)]
+#[derive(Clone, Copy, PartialEq, Eq, Default)]
 pub struct Physical(pub u8);
 
 // What a block has been through.
-#[derive(Clone, Copy)]
+#[derive(Clone, Copy, PartialEq, Eq, Default)]
 pub enum Condition {
+    #[default]
     Free,
     Clean,
     // Written since the last commit.
@@ -46,28 +47,12 @@ impl Condition {
     pub fn is_free(self) -> bool
         ensures { result ≡ is_free self }
     {
-        match self {
-            Condition::Free => true,
-            Condition::Clean => false,
-            Condition::Changed => false,
-        }
-    }
-
-    // 1 for a block that is in use, else 0.
-    fn in_use(self) -> usize
-        ensures value { result ≡ pick (not (is_free self)) 1 0 }
-        ensures within { result ≤ 1 }
-    {
-        match self {
-            Condition::Free => 0,
-            Condition::Clean => 1,
-            Condition::Changed => 1,
-        }
+        self == Condition::Free
     }
 }
 
 // What a mapping holds of one virtual block.
-#[derive(Clone, Copy)]
+#[derive(Clone, Copy, PartialEq, Eq, Default)]
 pub struct Block {
     pub physical: Physical,
     pub count: u8,
@@ -89,14 +74,9 @@ impl Mapping {
     pub fn blank() -> Mapping
         ensures { result ≡ blank }
     {
-        let none = Block {
-            physical: Physical(0),
-            count: 0,
-            condition: Condition::Free,
-        };
         Mapping {
             len: 0,
-            blocks: [none; Chip::RECORDS],
+            blocks: [Block::default(); Chip::RECORDS],
             tickets: [0u8; Chip::RECORDS * Chip::SECTORS],
         }
     }
@@ -111,8 +91,8 @@ impl Mapping {
     {
         Mapping {
             len: image_len,
-            blocks: blocks,
-            tickets: tickets,
+            blocks,
+            tickets,
         }
     }
 
@@ -128,23 +108,16 @@ impl Mapping {
         ensures { result ≡ with_tickets self v.0 t }
     {
         let at = v.at() * Chip::SECTORS;
-        let mut j: usize = 0;
-        while j < Chip::SECTORS {
-            self.tickets[at + j] = t[j];
-            j += 1;
-        }
+        self.tickets[at..at + Chip::SECTORS].copy_from_slice(&t);
         self
     }
 
     // The bytes of the save, 0 for a length that is no chip's. Whether the mapping fits is not looked at.
+    #[tactic(auto, unfolding(crate::specs::Blocks::len_of))]
     pub fn len(self) -> usize
         ensures { result ≡ len_of self }
     {
-        let known = Chip::from_len(self.len);
-        match known {
-            ChipOf::Known(kind) => Chip::save_len(kind),
-            ChipOf::Unknown => 0,
-        }
+        Chip::from_len(self.len).map_or(0, Chip::save_len)
     }
 
     // The number of in-use blocks among the first V of this chip.
@@ -152,26 +125,18 @@ impl Mapping {
         ensures { result ≡ how_many (λ v. not (free_at self v)) (virtuals (layout_of kind)) }
     {
         let v = Chip::virtual_blocks(kind);
-        let mut used: usize = 0;
-        let mut u: usize = 0;
-        while u < v {
-            let b = self.blocks[u];
-            let condition = b.condition;
-            used += condition.in_use();
-            u += 1;
-        }
-        used
+        self.blocks[..v]
+            .iter()
+            .filter(|b| !b.condition.is_free())
+            .count()
     }
 
     // The number of in-use blocks among the first V; 0 for a length that is no chip's.
+    #[tactic(auto, unfolding(crate::specs::Blocks::in_use_of))]
     pub fn in_use(self) -> usize
         ensures { result ≡ in_use_of self }
     {
-        let known = Chip::from_len(self.len);
-        match known {
-            ChipOf::Known(kind) => self.in_use_on(kind),
-            ChipOf::Unknown => 0,
-        }
+        Chip::from_len(self.len).map_or(0, |kind| self.in_use_on(kind))
     }
 
     // Which physical numbers the first V blocks have, as 256 flags.
@@ -180,12 +145,8 @@ impl Mapping {
     {
         let v = Chip::virtual_blocks(kind);
         let mut seen = [false; Chip::RECORDS];
-        let mut i: usize = 0;
-        while i < v {
-            let b = self.blocks[i];
-            let n = b.physical.0 as usize;
-            seen[n] = true;
-            i += 1;
+        for b in &self.blocks[..v] {
+            seen[usize::from(b.physical.0)] = true;
         }
         seen
     }
@@ -197,10 +158,8 @@ impl Mapping {
         let v = Chip::virtual_blocks(kind);
         let seen = self.seen_numbers(kind);
         let mut ok = true;
-        let mut k: usize = 0;
-        while k < v {
-            ok = ok & seen[k + 1];
-            k += 1;
+        for s in &seen[1..=v] {
+            ok &= *s;
         }
         ok
     }
@@ -210,59 +169,43 @@ impl Mapping {
         ensures { result ≡ reserved_free (layout_of kind) self }
     {
         let last = Virtual((Chip::virtual_blocks(kind) - 1) as u8);
-        let b = self.blocks[last.at()];
-        let condition = b.condition;
-        condition.is_free()
+        self.blocks[last.at()].condition.is_free()
     }
 
     // Whether the mapping is one that an image of its own length can have.
     fn fits_own(self) -> bool
         ensures { result ≡ fits_own self }
     {
-        let known = Chip::from_len(self.len);
-        match known {
-            ChipOf::Known(kind) => self.each_once(kind) & self.reserved_free(kind),
-            ChipOf::Unknown => false,
-        }
+        Chip::from_len(self.len).is_some_and(|kind| self.each_once(kind)
+            && self.reserved_free(kind))
     }
 
     // Whether the mapping fits an image of this length: answer 8 is given exactly when it does not.
     pub fn fits(self, image_len: usize) -> bool
         ensures { result ≡ fits image_len self }
     {
-        (self.len == image_len) & self.fits_own()
+        self.len == image_len && self.fits_own()
     }
 
     // The first block of a large chip whose count does not go into the seven bits of an item.
-    #[tactic(auto, using(crate::proofs::Highs::high_hit, crate::proofs::Highs::high_miss, crate::proofs::Highs::high_end))]
-    fn high_count_on(self, kind: Chip) -> Found
+    #[tactic(auto, using(crate::proofs::Highs::high_small))]
+    fn high_count_on(self, kind: Chip) -> Option<usize>
         ensures { result ≡ high_count_on (layout_of kind) self }
     {
         if !Chip::is_large(kind) {
-            return Found::Nothing;
+            return None;
         }
         let v = Chip::virtual_blocks(kind);
-        let mut block: usize = 0;
-        while block < v {
-            let b = self.blocks[block];
-            let count = b.count;
-            if Chip::IN_USE <= count {
-                return Found::At(block);
-            }
-            block += 1;
-        }
-        Found::Nothing
+        let blocks = &self.blocks[..v];
+        blocks.iter().position(|b| Chip::IN_USE <= b.count)
     }
 
     // The block at which commit answers 10, if there is one; free blocks count too.
-    pub fn high_count(self) -> Found
+    #[tactic(auto, unfolding(crate::specs::Limits::high_count))]
+    pub fn high_count(self) -> Option<usize>
         ensures { result ≡ high_count self }
     {
-        let known = Chip::from_len(self.len);
-        match known {
-            ChipOf::Known(kind) => self.high_count_on(kind),
-            ChipOf::Unknown => Found::Nothing,
-        }
+        Chip::from_len(self.len).and_then(|kind| self.high_count_on(kind))
     }
 }
 
@@ -270,10 +213,7 @@ impl Mapping {
 pub fn in_save(save_len: usize, place: usize, length: usize) -> bool
     ensures { result ≡ in_save save_len place length }
 {
-    if save_len < place {
-        return false;
-    }
-    length <= save_len - place
+    place <= save_len && length <= save_len - place
 }
 
 // What a call hands back: how it ended, and the mapping to go on with.
@@ -289,7 +229,7 @@ impl Outcome {
     {
         Outcome {
             answer: Answer::Accepted,
-            mapping: mapping,
+            mapping,
         }
     }
 
@@ -298,8 +238,20 @@ impl Outcome {
         ensures { result ≡ refused answer }
     {
         Outcome {
-            answer: answer,
+            answer,
             mapping: Mapping::blank(),
+        }
+    }
+}
+
+// What steps come to: the mapping that they found, or a refusal with the blank one.
+impl From<Result<Mapping, Answer>> for Outcome {
+    ghost from_gives = { λ steps outcome. outcome ≡ outcome_of steps };
+
+    fn from(steps: Result<Mapping, Answer>) -> Outcome {
+        match steps {
+            Ok(m) => Outcome::accepted(m),
+            Err(answer) => Outcome::refused(answer),
         }
     }
 }

@@ -16,8 +16,7 @@ fn asked(env: &impl Env) -> bool {
     let Ok(n) = env.arg(1, &mut word) else {
         return false;
     };
-    let start = (word[0] == b'i') & (word[1] == b'm') & (word[2] == b'a');
-    (n == 5) & start & (word[3] == b'g') & (word[4] == b'e')
+    word.get(..n) == Some(b"image".as_slice())
 }
 
 // Stores an entry.
@@ -43,18 +42,16 @@ fn write_zero() {
 fn write_blocks() {
     let zeros = io::buffer();
     let n = Chip::physical_blocks(Chip::Kib128);
-    let mut i: usize = 1;
-    while i < n {
+    for _ in 1..n {
         io::write_all(STDOUT_FILENO, &zeros);
-        i += 1;
     }
 }
 
-fn main(rt: HostRuntime) {
-    if asked(&rt) {
-        write_zero();
-        write_blocks();
-    } else {
-        io::write_all(STDOUT_FILENO, b"usage: sample image > FILE\n");
+fn main(rt: HostRuntime) -> std::io::Result<()> {
+    if !asked(&rt) {
+        return println!(rt; "usage: sample image > FILE");
     }
+    write_zero();
+    write_blocks();
+    Ok(())
 }

@@ -19,7 +19,7 @@ use Rattle.mapping.specs.declared.Block.{Block}
 use Rattle.mapping.specs.declared.Mapping.{Mapping}
 use Rattle.mapping.specs.Blocks.{is_free, block_at, number_at, free_at, len_of}
 use Rattle.save.specs.Save.{byte_at, save_bytes}
-use Rattle.save.specs.Readable.{block_part, PartIn, Readable}
+use Rattle.save.specs.Readable.{block_part, Readable}
 
 -- bytes of s that were copied over all of l
 pub copied_whole : (l s : List ℕ) (f : ℕ) → f + length l ≤ length s → splice l 0 (slice f (f + length l) s) ≡ take (length l) (drop f s)
@@ -106,9 +106,6 @@ module _ (image : List ℕ) (m : Mapping) where
     module _ (c : (place + d) % block_len + k ≤ block_len) (e : length b ≡ length l) where
       lent : length (mid_of d (d + k - d) b) ≡ k
       lent = mid_len d (d + k) b (omega arith) ∙ add-sub_cancel_left d k
-
-      pub part_in : PartIn image (block_at m ((place + d) / block_len)) ((place + d) % block_len) (length (mid_of d (d + k - d) b))
-      part_in = record { in_block = rw lent c; in_image = r.lies ((place + d) / block_len) (omega (arith, r.lies_in_save)) }
 
       -- where they came from it, they are the save's next
       pub read_turn

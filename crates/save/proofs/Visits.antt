@@ -8,7 +8,7 @@ use native.Mathlib.Omega.{arith}
 use lib.ListN.{length, get_or, set, length-replicate, replicate-append-replicate}
 use lib.Seq.{slice, take_all, length-slice}
 use Rattle.lists.specs.Words.{pick, splice, rep}
-use Rattle.lists.proofs.Splice.{splice-splice, length-splice}
+use Rattle.lists.proofs.Splice.{splice-nil, splice-splice, length-splice}
 use Rattle.chip.specs.Figures.{layout_of, reserved, block_len, sector_len, sectors, erased, records}
 use Rattle.chip.proofs.Layouts.{sound}
 use Rattle.mapping.specs.declared.Block.{Block}
@@ -64,6 +64,9 @@ filled_sheet image at j k x h =
     (subst (λ (i : ℕ). splice (splice image at (rep (j * k) x)) (at + i) (rep k x) ≡ splice image at (rep (j * k + k) x)) n
     (splice-splice 0 image at (rep (j * k) x) (rep k x) (omega arith)
     ∙ ap (splice image at) (replicate-append-replicate (j * k) k x)))
+
+-- what filling a block sheet by sheet cites
+pub ruleset filling = (splice-nil, filled_sheet)
 
 -- ---- what a visit keeps
 

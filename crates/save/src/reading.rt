@@ -3,7 +3,7 @@ ghost use Rattle.std.specs.Prelude.{◌≡◌, length, take, drop};
 ghost use Rattle.save.specs.Save.{save_bytes};
 ghost use Rattle.save.specs.Readable.{block_part, PartIn, Readable};
 
-use crate::places::{block_of, smaller};
+use crate::places::block_of;
 use chip::Chip;
 use mapping::{Block, Mapping};
 
@@ -12,8 +12,7 @@ fn read_block(image: &[u8], b: Block, off: usize, part: &mut [u8])
     requires { PartIn image.now b off (length part.old) }
     ensures { part.new ≡ block_part image.now b off (length part.old) }
 {
-    let condition = b.condition;
-    if condition.is_free() {
+    if b.condition.is_free() {
         slices::fill(part, Chip::ERASED);
         return;
     }
@@ -29,14 +28,14 @@ pub fn read_save(image: &[u8], m: Mapping, place: usize, buf: &mut [u8])
 {
     let n = buf.len();
     let mut done: usize = 0;
+    // a `while`: the first and the last part of a range are shorter than a block, which no iterator of std cuts
     while done < n {
         let p = place + done;
         let v = block_of(p).at();
         let off = p % Chip::BLOCK;
-        let k = smaller(Chip::BLOCK - off, n - done);
+        let k = (Chip::BLOCK - off).min(n - done);
         let end = done + k;
-        let b = m.blocks[v];
-        read_block(image, b, off, &mut buf[done..end]);
+        read_block(image, m.blocks[v], off, &mut buf[done..end]);
         done = end;
     }
 }

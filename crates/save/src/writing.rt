@@ -5,7 +5,7 @@ ghost use Rattle.chip.specs.Figures.{block_len, erased};
 ghost use Rattle.save.specs.Visits.{state, first_count, visited_block, opened_image, written, CanWrite};
 ghost use Rattle.save.specs.Parts.{stored_parts, CanStore};
 
-use crate::places::{block_of, larger, smaller};
+use crate::places::block_of;
 use chip::Chip;
 use mapping::{Block, Condition, Mapping, Physical};
 
@@ -13,50 +13,44 @@ use mapping::{Block, Condition, Mapping, Physical};
 const CHUNK_INIT: [u8; Chip::SECTOR] = [Chip::ERASED; Chip::SECTOR];
 
 // Fills a physical block, sector by sector, from the blank sheet.
+#[tactic(auto, using(crate::proofs::Visits::filling))]
 fn init_block(image: &mut [u8], number: Physical)
     requires { number.0 * block_len + block_len ≤ length image.old }
     ensures { image.new ≡ splice image.old (number.0 * block_len) (rep block_len erased) }
 {
     let sheet = CHUNK_INIT;
-    let mut j: usize = 0;
-    while j < Chip::SECTORS {
+    for j in 0..Chip::SECTORS {
         let at = tickets::sector_place(number, j);
         slices::copy(image, at, &sheet, 0, Chip::SECTOR);
-        j += 1;
     }
 }
 
 // The count of a block that is put in use: 0 becomes 1.
+#[tactic(auto, unfolding(crate::specs::Visits::first_count))]
 fn first_count(count: u8) -> u8
     ensures { result ≡ first_count count }
 {
-    if count == 0 { 1 } else { count }
+    count.max(1)
 }
 
 // What a visit does to a block: a free one is filled and put in use, and each becomes changed.
+#[tactic(auto, unfolding(crate::specs::Visits::visited_block, crate::specs::Visits::opened_image))]
 fn visit_block(image: &mut [u8], b: Block) -> Block
     requires { b.physical.0 * block_len + block_len ≤ length image.old }
     ensures value { result ≡ visited_block b }
     ensures image_after { image.new ≡ opened_image b image.old }
 {
-    let physical = b.physical;
-    let condition = b.condition;
-    if condition.is_free() {
-        init_block(image, physical);
-        return Block {
-            physical: physical,
-            count: first_count(b.count),
-            condition: Condition::Changed,
-        };
+    let mut visited = b;
+    if b.condition.is_free() {
+        init_block(image, b.physical);
+        visited.count = first_count(b.count);
     }
-    Block {
-        physical: physical,
-        count: b.count,
-        condition: Condition::Changed,
-    }
+    visited.condition = Condition::Changed;
+    visited
 }
 
 // Stores the parts of the bytes that fall into sectors s up to `stop` of the save, which lie in this physical block.
+#[tactic(auto, unfolding(crate::specs::Parts::stored_parts, crate::specs::Parts::parts_end, crate::specs::Visits::part_from))]
 fn store_parts(
     image: &mut [u8],
     number: Physical,
@@ -69,8 +63,8 @@ fn store_parts(
     ensures { image.new ≡ stored_parts number.0 place bytes.now s stop image.old }
 {
     let start = s * Chip::SECTOR;
-    let from = larger(place, start);
-    let end = smaller(place + bytes.len(), stop * Chip::SECTOR);
+    let from = place.max(start);
+    let end = (place + bytes.len()).min(stop * Chip::SECTOR);
     let at = tickets::sector_place(number, s % Chip::SECTORS) + (from - start);
     slices::copy(image, at, bytes, from - place, end - from);
 }
@@ -88,9 +82,8 @@ fn visit_sectors(
     ensures value { result ≡ visited_block b }
     ensures image_after { image.new ≡ stored_parts b.physical.0 place bytes.now s stop (opened_image b image.old) }
 {
-    let number = b.physical;
     let visited = visit_block(image, b);
-    store_parts(image, number, place, bytes, s, stop);
+    store_parts(image, b.physical, place, bytes, s, stop);
     visited
 }
 
@@ -101,10 +94,11 @@ pub fn write_save(image: &mut [u8], m: Mapping, place: usize, bytes: &[u8]) -> M
 {
     let mut t = m;
     let mut s = place / Chip::SECTOR;
-    let end = (place + bytes.len() + (Chip::SECTOR - 1)) / Chip::SECTOR;
+    let end = (place + bytes.len()).div_ceil(Chip::SECTOR);
+    // a `while`: the first and the last part of a range are shorter than a block, which no iterator of std cuts
     while s < end {
         let v = block_of(s * Chip::SECTOR).at();
-        let stop = smaller((v + 1) * Chip::SECTORS, end);
+        let stop = ((v + 1) * Chip::SECTORS).min(end);
         t.blocks[v] = visit_sectors(image, t.blocks[v], place, bytes, s, stop);
         s = stop;
     }

@@ -10,11 +10,7 @@ ghost use Rattle.lists.specs.Words.{splice, rep};
 pub fn fill(part: &mut [u8], b: u8)
     ensures { part.new ≡ rep (length part.old) b }
 {
-    let mut i: usize = 0;
-    while i < part.len() {
-        part[i] = b;
-        i += 1;
-    }
+    part.fill(b);
 }
 
 // Stores n bytes of src, those from `from` on, in dst from `at` on.

@@ -2,6 +2,7 @@
 -- would be false. Not everything is refused: what format leaves opens, and commits after any calls on it are accepted. A read
 -- is no constant and a write stores: what was written is read. A commit acts. A count is the entry's; that a replay applies
 -- every entry is in Table (`steps_0`). Assumes nothing.
+use Rattle.std.specs.Prelude.{Some}
 use mathlib.Core.Path.{◌≡◌, sym, ap, ◌∙◌}
 use mathlib.Core.Bool.{true, false}
 use mathlib.Core.List.{List}
@@ -12,7 +13,6 @@ use Rattle.lists.specs.Words.{splice}
 use Rattle.lists.proofs.Orders.{not_both}
 use Rattle.lists.proofs.Windows.{window-splice}
 use Rattle.chip.specs.declared.Chip.{Chip}
-use Rattle.chip.specs.declared.ChipOf.TheVariants.{Known}
 use Rattle.chip.specs.Figures.{Layout, layout_of, virtuals, sectors, image_len, from_len, records}
 use Rattle.chip.proofs.Layouts.{sound, from_own}
 use Rattle.answers.specs.declared.Answer.TheVariants.{Accepted}
@@ -65,7 +65,7 @@ module _ (k : Chip) (z : List ℕ) (long : length z ≡ image_len (layout_of k))
 
       same : chip (after_format z) (fresh (layout_of k)) some_opens ≡ k
       same =
-          let d : Known (chip (after_format z) (fresh (layout_of k)) some_opens) ≡ Known k =
+          let d : Some (chip (after_format z) (fresh (layout_of k)) some_opens) ≡ Some k =
           sym (known (after_format z) (fresh (layout_of k)) some_opens) ∙ ap from_len size ∙ from_own k in
           cc
 
@@ -73,7 +73,7 @@ module _ (k : Chip) (z : List ℕ) (long : length z ≡ image_len (layout_of k))
 -- write that stores nothing are both ruled out
 pub write_reads
     : (image : List ℕ) (m : Mapping) (k : Chip) (place : ℕ) (d buf : List ℕ)
-    → from_len (length image) ≡ Known k
+    → from_len (length image) ≡ Some k
     → admission (length image) m place (length d) ≡ Accepted
     → length buf ≡ length d
     → read_into (after_write image m place d).image (after_write image m place d).mapping place buf ≡ d
@@ -101,7 +101,7 @@ write_reads image m k place d buf is ok size =
 -- an accepted commit of a changed block changes the mapping (demand 3's fresh open)
 pub commit_acts
     : (image : List ℕ) (m : Mapping) (k : Chip) (v : ℕ)
-    → from_len (length image) ≡ Known k
+    → from_len (length image) ≡ Some k
     → commit_answer (length image) m ≡ Accepted
     → v < virtuals (layout_of k)
     → (block_at m v).condition ≡ Changed

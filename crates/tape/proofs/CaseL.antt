@@ -1,5 +1,6 @@
 -- Case L: an entry that brings a count of a large chip to 128 opens, and the commit after it answers 10 at that block. By
 -- what an entry does to a mapping in good order, whose other counts stay below 128. Assumes nothing.
+use Rattle.std.specs.Prelude.{Some}
 use mathlib.Core.Path.{◌≡◌, refl, sym, ap, ◌∙◌}
 use mathlib.Core.Bool.{true}
 use mathlib.Core.List.{List}
@@ -13,13 +14,11 @@ use lib.Seq.{length-take-le, get_or-set_same, get_or-set_other}
 use Rattle.lists.specs.Words.{pick}
 use Rattle.lists.proofs.Tests.{and_both}
 use Rattle.chip.specs.declared.Chip.TheVariants.{Mib1}
-use Rattle.chip.specs.declared.ChipOf.TheVariants.{Known}
 use Rattle.chip.specs.Figures.{Layout, layout_of, virtuals, reserved, block_len, image_len, in_use_bit, from_len}
 use Rattle.chip.proofs.Layouts.{sound, from_own}
 use Rattle.answers.specs.declared.Answer.TheVariants.{Accepted, CountTooHigh}
 use Rattle.mapping.specs.declared.Block.{Block}
 use Rattle.mapping.specs.declared.Condition.TheVariants.{Free, Changed}
-use Rattle.answers.specs.declared.Found.TheVariants.{At}
 use Rattle.mapping.specs.declared.Mapping.{Mapping}
 use Rattle.mapping.specs.declared.Outcome.{Outcome}
 use Rattle.mapping.specs.Blocks.{is_free, no_block, block_of, block_at, number_at, count_at, with_block}
@@ -93,7 +92,7 @@ module _
         (moves_steps2 Mib1 m b.opened (λ u h e. b.counts u h) b.reserved_is_free z long v w (number_at m w) (number_at m v) 128
         (count_at m v) t (omega arith) b.below b.free refl refl more refl eight (λ e. omega arith))
 
-    n_known : from_len n.len ≡ Known Mib1
+    n_known : from_len n.len ≡ Some Mib1
     n_known = ap from_len n_len ∙ from_own Mib1
 
     n_fits : fits (image_len l) n ≡ true
@@ -118,7 +117,7 @@ module _
             (moved.other_blocks u (record { below = omega arith; not_v = λ f. omega arith; not_w = e })) in
             omega (arith, b.counts u (omega arith))
 
-    found : first_of (λ u. leb in_use_bit (count_at n u)) (virtuals l) ≡ At v
+    found : first_of (λ u. leb in_use_bit (count_at n u)) (virtuals l) ≡ Some v
     found =
         first_finds (λ u. leb in_use_bit (count_at n u)) 0 (virtuals l) v (omega arith) (omega arith)
         (λ i p q. lt-leb in_use_bit (count_at n i) (low i q)) (le-leb in_use_bit (count_at n v) (omega (arith, high)))

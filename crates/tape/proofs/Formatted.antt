@@ -1,6 +1,7 @@
 -- A formatted image opens: the fresh mapping is in good order and fits, no block of it is in use, and so block zero put from
 -- it opens with exactly it, and its save is all 0xFF. Steps 2 to 7 are claimed for every sound layout,
 -- small ones of any P up to 128 among them. Assumes nothing.
+use Rattle.std.specs.Prelude.{None}
 use mathlib.Core.Path.{◌≡◌, refl, sym, ap, ◌∙◌}
 use mathlib.Core.Bool.{Bool, true, false}
 use mathlib.Core.List.{List}
@@ -20,7 +21,6 @@ use Rattle.chip.specs.Figures.{Layout, layout_of, virtuals, reserved, block_len,
 use Rattle.chip.proofs.Layouts.{Sound, sound, map_fits, from_own}
 use Rattle.answers.specs.declared.Answer.TheVariants.{Accepted}
 use Rattle.mapping.specs.declared.Block.{Block}
-use Rattle.answers.specs.declared.Found.TheVariants.{Nothing}
 use Rattle.mapping.specs.Blocks.{is_free, no_block, number_at, count_at, free_at, len_of}
 use Rattle.mapping.specs.Fits.{each_once, reserved_free, fits_as, fits_own, fits}
 use Rattle.mapping.specs.Fits.Laws.{own_known, fits_is}
@@ -95,11 +95,11 @@ module _ (l : Layout) (s : Sound l) where
   unfolding fails_at sector_fails
   fresh_fails t i h = rw (fresh_free (i / sectors) (omega arith))
 
-  pub fresh_tickets : (t : ℕ → ℕ → ℕ) → bad_ticket l t (fresh l) ≡ Nothing
+  pub fresh_tickets : (t : ℕ → ℕ → ℕ) → bad_ticket l t (fresh l) ≡ None
   unfolding bad_ticket
   fresh_tickets t = go l.large
     where
-      go : (b : Bool) → pick b Nothing (first_of (fails_at t (fresh l)) (virtuals l * sectors)) ≡ Nothing
+      go : (b : Bool) → pick b None (first_of (fails_at t (fresh l)) (virtuals l * sectors)) ≡ None
       go true = refl
       go false = first_misses (fails_at t (fresh l)) 0 (virtuals l * sectors) (λ i a b. fresh_fails t i (omega arith))
 

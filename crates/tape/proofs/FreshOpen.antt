@@ -1,6 +1,7 @@
 -- Block zero put from a mapping in good order opens again with exactly that mapping. Step 1 by the length, 2 by the sum that
 -- was put, 3 by the numbers, 4 and 5 by the erased journal, 6 by the reserved block, 7 because no data block was stored to.
 -- Assumes nothing.
+use Rattle.std.specs.Prelude.{None}
 use mathlib.Core.Path.{◌≡◌, sym, ap, ◌∙◌}
 use mathlib.Core.Bool.{true, false, not}
 use mathlib.Core.List.{List}
@@ -18,7 +19,6 @@ use Rattle.chip.specs.declared.Chip.{Chip}
 use Rattle.chip.specs.Figures.{Layout, layout_of, virtuals, block_len, sectors, image_len, header_len, item_len, map_len, journal_at, erased, in_use_bit, records}
 use Rattle.chip.proofs.Layouts.{Sound, sound, map_fits, slot_fits, from_own}
 use Rattle.answers.specs.declared.Answer.TheVariants.{Accepted}
-use Rattle.answers.specs.declared.Found.TheVariants.{Nothing}
 use Rattle.mapping.specs.declared.Mapping.{Mapping}
 use Rattle.mapping.specs.Blocks.{number_at, count_at, free_at}
 use Rattle.mapping.specs.Fits.{placed, reserved_free}
@@ -91,7 +91,7 @@ module _ (l : Layout) (s : Sound l) (m : Mapping) (o : Opened l m) where
           let d : j / sectors * sectors + j % sectors ≡ j = omega arith in
           rw d at (o.free_tickets (j / sectors) (j % sectors) (omega arith) f (omega arith)))
 
-  pub numbers_good : bad_number l m ≡ Nothing
+  pub numbers_good : bad_number l m ≡ None
   unfolding bad_number
   numbers_good =
       first_misses (λ v. not (placed l.p m v)) 0 (virtuals l)
@@ -155,7 +155,7 @@ pub put_opens
     → reserved_free (layout_of k) m ≡ true
     → (z : List ℕ)
     → length z ≡ image_len (layout_of k)
-    → bad_ticket (layout_of k) (ticket_in z) m ≡ Nothing
+    → bad_ticket (layout_of k) (ticket_in z) m ≡ None
     → open_of (put_map (layout_of k) m z) ≡ outcome Accepted m
 unfolding open_of steps1to6 tickets_of
 put_opens k m o counts free z long fit =

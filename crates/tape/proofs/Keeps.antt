@@ -1,5 +1,6 @@
 -- What each call leaves as it was. A refused call is told by its answer; an accepted one by its mapping, which fits, and so
 -- by the chip: a write by its visits, a commit by the mapping that it makes and by block zero put from it. Assumes nothing.
+use Rattle.std.specs.Prelude.{Option, Some, None}
 use mathlib.Core.Path.{◌≡◌, refl, ap, ◌∙◌}
 use mathlib.Core.Bool.{not, and-false}
 use mathlib.Core.List.{List}
@@ -10,8 +11,6 @@ use borrow.Author.Tests.{ne_eqb, le-ltb}
 use lib.ListN.{length, get_or, take, drop}
 use Rattle.chip.specs.declared.Chip.{Chip}
 use Rattle.chip.specs.declared.Chip.TheVariants.{Mib1}
-use Rattle.chip.specs.declared.ChipOf.{ChipOf}
-use Rattle.chip.specs.declared.ChipOf.TheVariants.{Known, Unknown}
 use Rattle.chip.specs.Figures.{layout_of, virtuals, block_len, header_len, sectors, from_len, by_chip, records}
 use Rattle.chip.proofs.Layouts.{sound, from_own}
 use Rattle.answers.specs.declared.Answer.TheVariants.{Accepted, WrongLength}
@@ -51,10 +50,10 @@ unfolding format_answer after_format
 refused_format z = go (from_len (length z))
   where
     go
-        : (o : ChipOf) → (number_of (by_chip o (λ k. Accepted) WrongLength) ≡ 0 → ⊥)
+        : (o : Option Chip) → (number_of (by_chip o (λ k. Accepted) WrongLength) ≡ 0 → ⊥)
         → by_chip o (λ k. formatted (layout_of k) z) z ≡ z
-    go (Known k) ne = absurd (ne refl)
-    go Unknown ne = refl
+    go (Some k) ne = absurd (ne refl)
+    go None ne = refl
 
 -- ---- write
 
@@ -102,7 +101,7 @@ counts_write image m place d v h =
 by_commit {ℓ}
     : {X : Type ℓ} (f : State → X) (image : List ℕ) (m : Mapping) (x : X)
     → f (record { image = image; mapping = m }) ≡ x
-    → ((k : Chip) → from_len (length image) ≡ Known k → commit_answer (length image) m ≡ Accepted → f (after_commit image m) ≡ x)
+    → ((k : Chip) → from_len (length image) ≡ Some k → commit_answer (length image) m ≡ Accepted → f (after_commit image m) ≡ x)
     → f (after_commit image m) ≡ x
 by_commit {X = X} f image m x left done = go (ℕ_discrete (number_of (commit_answer (length image) m)) 0)
   where
@@ -130,7 +129,7 @@ header_commit image m =
     (known_long (length image) k known))
 
 module _ (k : Chip) (image : List ℕ) (m : Mapping) (long : Sized k image) where
-  known : from_len (length image) ≡ Known k
+  known : from_len (length image) ≡ Some k
   known = ap from_len long ∙ from_own k
 
   past_record : (v : ℕ) → virtuals (layout_of k) ≤ v → settled_record (layout_of k) m v ≡ block_at m v

@@ -1,6 +1,7 @@
 -- A commit, accepted or refused, keeps what a run keeps. The new mapping is in good order: its numbers are the old ones, its
 -- blocks are free or clean, and its tickets fit, new ones because they were just taken and old ones as before. So block zero
 -- put from it opens again with exactly it. Assumes nothing.
+use Rattle.std.specs.Prelude.{None}
 use mathlib.Core.Path.{◌≡◌, refl, sym, ap, ◌∙◌}
 use mathlib.Core.Bool.{true, false, not, and-false}
 use mathlib.Core.List.{List}
@@ -19,7 +20,6 @@ use Rattle.answers.specs.declared.Answer.TheVariants.{Accepted}
 use Rattle.mapping.specs.declared.Block.{Block}
 use Rattle.mapping.specs.declared.Condition.{Condition}
 use Rattle.mapping.specs.declared.Condition.TheVariants.{Free, Clean, Changed}
-use Rattle.answers.specs.declared.Found.TheVariants.{Nothing}
 use Rattle.mapping.specs.declared.Mapping.{Mapping}
 use Rattle.mapping.specs.Blocks.{no_block, is_free, block_at, number_at, count_at, free_at}
 use Rattle.mapping.specs.Fits.{Apart, reserved_free, fits}
@@ -225,7 +225,7 @@ module _ (k : Chip) (image : List ℕ) (m : Mapping) (t : List ℕ) (g : Good k 
       back : s / sectors * sectors + s % sectors ≡ s
       back = omega arith
 
-  tickets_fit : bad_ticket (layout_of k) (ticket_in image) new ≡ Nothing
+  tickets_fit : bad_ticket (layout_of k) (ticket_in image) new ≡ None
   unfolding bad_ticket
   tickets_fit =
       by_test (layout_of k).large (λ e. rw e)

@@ -1,5 +1,6 @@
 -- What open answers, step by step: the length, the sum, the first bad number; slot after slot, each of which is passed by a
 -- turn of the replay; the reserved block; the first sector whose ticket is wrong. Assumes nothing.
+use Rattle.std.specs.Prelude.{Option, Some, None}
 use mathlib.Core.Path.{◌≡◌, refl, sym, ap, ◌∙◌}
 use mathlib.Core.Bool.{true, false, not}
 use mathlib.Core.List.{List}
@@ -13,13 +14,10 @@ use Rattle.lists.proofs.Orders.{by_test, not_both, test_false}
 use Rattle.lists.proofs.Tests.{and_left, and_right, all_at, all_by}
 use Rattle.chip.specs.declared.Chip.{Chip}
 use Rattle.chip.specs.declared.Chip.TheVariants.{Kib128, Kib512, Mib1}
-use Rattle.chip.specs.declared.ChipOf.{ChipOf}
-use Rattle.chip.specs.declared.ChipOf.TheVariants.{Known, Unknown}
 use Rattle.chip.specs.Figures.{Layout, layout_of, virtuals, reserved, block_len, sectors, image_len, journal_at, slot_count, from_len, by_chip}
 use Rattle.chip.proofs.Layouts.{sound, slot_fits, from_own, from_none}
 use Rattle.answers.specs.declared.Answer.{Answer}
 use Rattle.answers.specs.declared.Answer.TheVariants.{Accepted, WrongLength, WrongMapSum, BadNumber, CopiesDiffer, BadEntry, ReservedInUse, WrongTicket}
-use Rattle.answers.specs.declared.Found.TheVariants.{At, Nothing}
 use Rattle.answers.specs.Answers.{number_of}
 use Rattle.answers.proofs.Searches.{first_finds, first_misses}
 use Rattle.mapping.specs.declared.Block.{Block}
@@ -168,7 +166,7 @@ module _ (k : Chip) (image : List ℕ) (long : Sized k image) where
       test_false (placed l.p m v)
       (λ e.
       bad (record { low = (placed_inside m l some v e).0; high = (placed_inside m l some v e).1; new = λ u b d. placed_new m l some v u e b d })) in
-      let found : bad_number l m ≡ At v =
+      let found : bad_number l m ≡ Some v =
       first_finds (λ u. not (placed l.p m u)) 0 (virtuals l) v (omega arith) (omega arith)
       (λ u a b. ap not (placed_by m l some u (fine u b).low (fine u b).high (fine u b).new)) (ap not hit) in
       open_by (BadNumber v) refl (rw (right_sum sum, found))
@@ -184,7 +182,7 @@ module _ (k : Chip) (image : List ℕ) (long : Sized k image) where
         let l : Layout = layout_of k in
         let m : Mapping = loaded l (zeroth image) in
         let some : 1 ≤ l.p = omega (arith, (sound k).some) in
-        let none : bad_number l m ≡ Nothing =
+        let none : bad_number l m ≡ None =
         first_misses (λ u. not (placed l.p m u)) 0 (virtuals l)
         (λ v a b.
         let p = r.numbers v (omega arith) in
@@ -353,9 +351,9 @@ tickets_blanked : (image : List ℕ) (m : Mapping) → Blanked (tickets_of image
 unfolding tickets_of
 tickets_blanked image m = go (from_len (length image))
   where
-    go : (o : ChipOf) → Blanked (by_chip o (λ k. step7 (layout_of k) image m) (refused WrongLength))
-    go (Known k) = found_blanked (bad_ticket (layout_of k) (ticket_in image) m) WrongTicket (outcome Accepted m) (accepted_blanked m)
-    go Unknown = refused_blanked WrongLength
+    go : (o : Option Chip) → Blanked (by_chip o (λ k. step7 (layout_of k) image m) (refused WrongLength))
+    go (Some k) = found_blanked (bad_ticket (layout_of k) (ticket_in image) m) WrongTicket (outcome Accepted m) (accepted_blanked m)
+    go None = refused_blanked WrongLength
 
 pub open_blanked : (image : List ℕ) → Blanked (open_of image)
 unfolding open_of

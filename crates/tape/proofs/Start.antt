@@ -1,5 +1,6 @@
 -- Where a run starts: whatever `open` accepts is in good order. Steps 1 to 6 give the numbers, the blank records and the zero
 -- tickets, step 7 the tickets that fit, and nothing is changed yet. Assumes nothing.
+use Rattle.std.specs.Prelude.{Option, Some, None}
 use mathlib.Core.Path.{◌≡◌, refl, sym, ap, ◌∙◌}
 use mathlib.Core.Bool.{true, false}
 use mathlib.Core.List.{List}
@@ -11,13 +12,10 @@ use lib.ListN.{length, get_or, take}
 use lib.Seq.{length-take-le}
 use Rattle.lists.proofs.Orders.{split}
 use Rattle.chip.specs.declared.Chip.{Chip}
-use Rattle.chip.specs.declared.ChipOf.TheVariants.{Known}
 use Rattle.chip.specs.Figures.{layout_of, virtuals, block_len, sectors, from_len}
 use Rattle.chip.proofs.Layouts.{from_is, from_short}
 use Rattle.answers.specs.declared.Answer.TheVariants.{Accepted, WrongTicket}
 use Rattle.mapping.specs.declared.Condition.TheVariants.{Clean}
-use Rattle.answers.specs.declared.Found.{Found}
-use Rattle.answers.specs.declared.Found.TheVariants.{At, Nothing}
 use Rattle.mapping.specs.declared.Mapping.{Mapping}
 use Rattle.mapping.specs.declared.Outcome.{Outcome}
 use Rattle.mapping.specs.Blocks.{is_free, block_at, number_at}
@@ -50,13 +48,13 @@ then_next : (o : Outcome) (next : Mapping → Outcome) (m : Mapping) → and_the
 then_next o next m e = rw (eq-eqb (number_of o.answer) 0 (then_first o next m e)) at e
 
 -- a search that ended in acceptance found nothing, and left the mapping as it was
-unless_none : (f : Found) (n m : Mapping) → unless_found f WrongTicket (outcome Accepted n) ≡ outcome Accepted m → f ≡ Nothing
-unless_none (At s) n m e = let z : ◌≡◌ {A = ℕ} 7 0 = ap (λ (x : Outcome). number_of x.answer) e in absurd (omega arith)
-unless_none Nothing n m e = refl
+unless_none : (f : Option ℕ) (n m : Mapping) → unless_found f WrongTicket (outcome Accepted n) ≡ outcome Accepted m → f ≡ None
+unless_none (Some s) n m e = let z : ◌≡◌ {A = ℕ} 7 0 = ap (λ (x : Outcome). number_of x.answer) e in absurd (omega arith)
+unless_none None n m e = refl
 
-unless_same : (f : Found) (n m : Mapping) → unless_found f WrongTicket (outcome Accepted n) ≡ outcome Accepted m → n ≡ m
-unless_same (At s) n m e = let z : ◌≡◌ {A = ℕ} 7 0 = ap (λ (x : Outcome). number_of x.answer) e in absurd (omega arith)
-unless_same Nothing n m e = ap (λ (x : Outcome). x.mapping) e
+unless_same : (f : Option ℕ) (n m : Mapping) → unless_found f WrongTicket (outcome Accepted n) ≡ outcome Accepted m → n ≡ m
+unless_same (Some s) n m e = let z : ◌≡◌ {A = ℕ} 7 0 = ap (λ (x : Outcome). number_of x.answer) e in absurd (omega arith)
+unless_same None n m e = ap (λ (x : Outcome). x.mapping) e
 
 module _ (image : List ℕ) (m : Mapping) (accepted : open_of image ≡ outcome Accepted m) where
   first : number_of (steps1to6 (take block_len image) (length image)).answer ≡ 0
@@ -84,7 +82,7 @@ module _ (image : List ℕ) (m : Mapping) (accepted : open_of image ≡ outcome 
   pub chip : Chip
   chip = as_found.chip
 
-  pub known : from_len (length image) ≡ Known chip
+  pub known : from_len (length image) ≡ Some chip
   unfolding chip
   known = as_found.known
 
@@ -95,7 +93,7 @@ module _ (image : List ℕ) (m : Mapping) (accepted : open_of image ≡ outcome 
   same : (steps1to6 (take block_len image) (length image)).mapping ≡ m
   same = unless_same (bad_ticket (layout_of chip) (ticket_in image) _) _ m seventh
 
-  fit : bad_ticket (layout_of chip) (ticket_in image) m ≡ Nothing
+  fit : bad_ticket (layout_of chip) (ticket_in image) m ≡ None
   fit = rw same at (unless_none (bad_ticket (layout_of chip) (ticket_in image) _) _ m seventh)
 
   opened : Opened (layout_of chip) m

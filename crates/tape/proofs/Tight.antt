@@ -2,9 +2,15 @@
 -- inner crate that asks nothing of its caller, two outcomes at the same arguments that both meet its contract are one, in the
 -- result and in the bytes behind its `&mut` at the exit. A contract is what the checker reads of it, `Learnt`, with all its
 -- clauses; tests/tight compares the functions below with the code's. Assumes nothing.
-use mathlib.Core.Path.{◌≡◌, refl, sym, ◌∙◌}
+use mathlib.Core.Path.{◌≡◌, refl, sym, ap, ◌∙◌}
+use mathlib.Core.Bool.{Bool, true, false, true≢false}
 use mathlib.Core.List.{List}
 use Prim.Native.Nat.{ℕ}
+use Rattle.std.specs.Prelude.{eqb, Result, Ok, Err, IfErr}
+use Rattle.answers.specs.declared.Answer.{Answer}
+use Rattle.answers.specs.Answers.{number_of}
+use Rattle.mapping.specs.declared.Mapping.{Mapping}
+use Rattle.mapping.specs.Outcomes.{outcome_of, IsRefusal}
 use Rattle.crc16.proofs.crc16_ninty.Reads as crc16_ninty_reads
 use Rattle.crc16.proofs.ticket.Reads as ticket_reads
 use Rattle.chip.proofs.Chip.physical_blocks.Reads as chip_physical_blocks_reads
@@ -33,12 +39,19 @@ use Rattle.answers.proofs.Answer.number.Reads as answer_number_reads
 use Rattle.answers.proofs.Answer.place.Reads as answer_place_reads
 use Rattle.mapping.proofs.Outcome.accepted.Reads as outcome_accepted_reads
 use Rattle.mapping.proofs.Outcome.refused.Reads as outcome_refused_reads
+use Rattle.mapping.proofs.OutcomeFromResultMappingAnswer.from.Reads as outcome_from_reads
 use Rattle.block_map.proofs.item_at.Reads as item_at_reads
 use Rattle.block_map.proofs.bad_number.Reads as bad_number_reads
 use Rattle.slices.proofs.fill.Reads as fill_reads
-use Rattle.crossing.proofs.from_c.Reads as from_c_reads
-use Rattle.crossing.proofs.to_c.Reads as to_c_reads
-use Rattle.crossing.proofs.answer_to_c.Reads as answer_to_c_reads
+use Rattle.block_map.proofs.load_map.Reads as load_map_reads
+use Rattle.block_map.proofs.sum_holds.Reads as sum_holds_reads
+use Rattle.journal.proofs.open_zero.Reads as open_zero_reads
+use Rattle.journal.proofs.open_map.Reads as open_map_reads
+use Rattle.crossing.proofs.CBlockFromBlock.from.Reads as block_to_c_reads
+use Rattle.crossing.proofs.BlockFromCBlock.from.Reads as block_from_c_reads
+use Rattle.crossing.proofs.MappingFromCMapping.from.Reads as from_c_reads
+use Rattle.crossing.proofs.CMappingFromMapping.from.Reads as to_c_reads
+use Rattle.crossing.proofs.CAnswerFromAnswer.from.Reads as answer_to_c_reads
 use Rattle.crossing.proofs.answered.Reads as answered_reads
 use Rattle.crossing.proofs.outcome_to_c.Reads as outcome_to_c_reads
 use Rattle.listing.proofs.limit.Reads as listing_limit_reads
@@ -154,11 +167,40 @@ outcome_accepted_tight κs a r r2 s s2 p q = p ∙ sym q
 pub outcome_refused_tight : Determines outcome_refused_reads.Learnt
 outcome_refused_tight κs a r r2 s s2 p q = p ∙ sym q
 
+pub outcome_from_tight : Determines outcome_from_reads.Learnt
+outcome_from_tight κs a r r2 s s2 p q = p ∙ sym q
+
 pub item_at_tight : Determines item_at_reads.Learnt
 item_at_tight κs a r r2 s s2 p q = p.0 ∙ sym q.0
 
 pub bad_number_tight : Determines bad_number_reads.Learnt
 bad_number_tight κs a r r2 s s2 p q = p ∙ sym q
+
+pub load_map_tight : Determines load_map_reads.Learnt
+load_map_tight κs a r r2 s s2 p q = p ∙ sym q
+
+pub sum_holds_tight : Determines sum_holds_reads.Learnt
+sum_holds_tight κs a r r2 s s2 p q = p ∙ sym q
+
+-- two results of steps that are the same outcome are one, since an error is no 0
+steps_apart
+    : (r r2 : Result Mapping Answer) → IfErr r IsRefusal → IfErr r2 IsRefusal → outcome_of r ≡ outcome_of r2 → r ≡ r2
+steps_apart (Ok m) (Ok n) p q e = ap Ok (ap (λ o. o.mapping) e)
+steps_apart (Ok m) (Err b) p q e = let z : ◌≡◌ {A = Bool} true false = ap (λ o. eqb (number_of o.answer) 0) e ∙ q in absurd (true≢false z)
+steps_apart (Err a) (Ok n) p q e = let z : ◌≡◌ {A = Bool} true false = ap (λ o. eqb (number_of o.answer) 0) (sym e) ∙ p in absurd (true≢false z)
+steps_apart (Err a) (Err b) p q e = ap Err (ap (λ o. o.answer) e)
+
+pub open_zero_tight : Determines open_zero_reads.Learnt
+open_zero_tight κs a r r2 s s2 p q = steps_apart r r2 p.1 q.1 (p.0 ∙ sym q.0)
+
+pub open_map_tight : Determines open_map_reads.Learnt
+open_map_tight κs a r r2 s s2 p q = steps_apart r r2 p.1 q.1 (p.0 ∙ sym q.0)
+
+pub block_to_c_tight : Determines block_to_c_reads.Learnt
+block_to_c_tight κs a r r2 s s2 p q = p ∙ sym q
+
+pub block_from_c_tight : Determines block_from_c_reads.Learnt
+block_from_c_tight κs a r r2 s s2 p q = p ∙ sym q
 
 pub from_c_tight : Determines from_c_reads.Learnt
 from_c_tight κs a r r2 s s2 p q = p ∙ sym q

@@ -1,6 +1,7 @@
 -- A write is its visits one after the other, so what each keeps all keep. After those before sector s the save is the one
 -- that was, with the bytes for sectors before s put in their place; the next part stands where these end, and the last one
 -- ends where the write does. Assumes nothing.
+use Rattle.std.specs.Prelude.{Some}
 use mathlib.Core.Path.{◌≡◌, refl, sym, ap, ◌∙◌}
 use mathlib.Core.Bool.{true}
 use mathlib.Core.List.{List}
@@ -14,7 +15,6 @@ use Rattle.lists.proofs.Splice.{splice-nil}
 use Rattle.lists.proofs.Windows.{length-window, get_or-window, window_ext}
 use Rattle.crc16.specs.Crc.{crc16, ticket_of}
 use Rattle.chip.specs.declared.Chip.{Chip}
-use Rattle.chip.specs.declared.ChipOf.TheVariants.{Known}
 use Rattle.chip.specs.Figures.{layout_of, virtuals, reserved, block_len, sector_len, sectors, save_len, from_len, by_chip}
 use Rattle.chip.proofs.Layouts.{sound, from_is}
 use Rattle.answers.specs.declared.Answer.TheVariants.{Accepted}
@@ -35,7 +35,7 @@ use Rattle.tape.proofs.Visited.{Laid, visit_changed, visit_stays, visit_count_le
 use Rattle.tape.proofs.Granted.{accepted_can}
 
 -- an accepted write, on the chip of the image's length
-module _ (image : List ℕ) (m : Mapping) (place : ℕ) (d : List ℕ) (k : Chip) (known : from_len (length image) ≡ Known k)
+module _ (image : List ℕ) (m : Mapping) (place : ℕ) (d : List ℕ) (k : Chip) (known : from_len (length image) ≡ Some k)
     (ok : admission (length image) m place (length d) ≡ Accepted) where
   -- image and mapping after it
   abbrev pub new : State

@@ -1,10 +1,9 @@
 -- Demand 3, sentence by sentence, as facts about one point of a run: image and mapping as they are there, and the tape
 -- beside them. The theorem in proofs/Demand says that every point of every run from an accepted open has them. It says
 -- nothing of calls with another mapping than the latest, or of an image that somebody else stores to. Assumes nothing.
-use Rattle.std.specs.Prelude.{◌≡◌, true, List, ℕ, ◌<◌, ◌≤◌, length, take, drop, get_or}
+use Rattle.std.specs.Prelude.{◌≡◌, true, List, ℕ, ◌<◌, ◌≤◌, length, take, drop, get_or, Some}
 use Rattle.chip.specs.declared.Chip.{Chip}
 use Rattle.chip.specs.declared.Chip.TheVariants.{Mib1}
-use Rattle.chip.specs.declared.ChipOf.TheVariants.{Known}
 use Rattle.chip.specs.Figures.{layout_of, block_len, virtuals, journal_at, from_len}
 use Rattle.answers.specs.declared.Answer.{Answer}
 use Rattle.answers.specs.declared.Answer.TheVariants.{Accepted, CountTooHigh}
@@ -48,7 +47,7 @@ pub record Refuses (k : Chip) (m : Mapping) (a : Answer) : Type 0 where
 
 pub record Kept (k : Chip) (st : State) (t : List ℕ) : Type 0 where
   -- the image stays one of the same chip, and the latest mapping always fits it: 8 is never given
-  pub chip : from_len (length st.image) ≡ Known k
+  pub chip : from_len (length st.image) ≡ Some k
   pub fitting : fits (length st.image) st.mapping ≡ true
   -- "every accepted read gives what a plain tape gives"
   pub reads

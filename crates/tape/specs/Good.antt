@@ -1,8 +1,7 @@
 -- What every point of a run keeps to: image and mapping belong together, the save is the tape, and nothing stands in the
 -- mapping that an open would not give back once every block is clean. Assumes nothing.
-use Rattle.std.specs.Prelude.{◌≡◌, true, false, List, ℕ, ◌+◌, ◌*◌, ◌<◌, ◌≤◌, length, get_or}
+use Rattle.std.specs.Prelude.{◌≡◌, true, false, List, ℕ, ◌+◌, ◌*◌, ◌<◌, ◌≤◌, length, get_or, Some}
 use Rattle.chip.specs.declared.Chip.{Chip}
-use Rattle.chip.specs.declared.ChipOf.TheVariants.{Known}
 use Rattle.chip.specs.Figures.{layout_of, virtuals, sectors, from_len, records}
 use Rattle.answers.specs.declared.Answer.TheVariants.{Accepted}
 use Rattle.mapping.specs.declared.Condition.TheVariants.{Clean}
@@ -16,7 +15,7 @@ use Rattle.wear_leveling.specs.Open.{open_of}
 use Rattle.tape.specs.Demand.{Quiet}
 
 pub record Good (k : Chip) (st : State) (t : List ℕ) : Type 0 where
-  pub known : from_len (length st.image) ≡ Known k
+  pub known : from_len (length st.image) ≡ Some k
   pub fitting : fits (length st.image) st.mapping ≡ true
   pub blocks_length : length st.mapping.blocks ≡ records
   pub tickets_length : length st.mapping.tickets ≡ records * sectors

@@ -4,11 +4,8 @@
 // `stdout`, worked out from the paper.
 #![tactic(auto)]
 
-use answers::Answer;
 use mapping::Mapping;
-
-// Standard output.
-const STDOUT_FILENO: i32 = 1;
+use std::io;
 
 // Room for the longest image: a byte more than the largest chip has.
 const ROOM: usize = 0x100001;
@@ -26,135 +23,107 @@ fn image_of(b: u8) -> [u8; ROOM] {
     [b; ROOM]
 }
 
-// Prints a word and a number.
-fn tell(word: &[u8], n: u64) {
-    io::write_all(STDOUT_FILENO, word);
-    io::print_decimal(STDOUT_FILENO, n);
-}
-
-// Prints a byte, and ends the line.
-fn tell_byte(b: u8) {
-    tell(b" byte ", b as u64);
-    io::write_all(STDOUT_FILENO, b"\n");
-}
-
-// Prints a call's answer, number and place.
-fn say(call: &[u8], answer: Answer) {
-    tell(call, answer.number() as u64);
-    tell(b" place ", answer.place() as u64);
-}
-
 // Prints the sums of the image's two parts.
-fn show_sums(image: &[u8]) {
-    if CUT <= image.len() {
-        io::write_all(STDOUT_FILENO, b"sums ");
-        io::print_hex(STDOUT_FILENO, crc16::crc16_ninty(&image[0..CUT]) as u64, 4);
-        io::write_all(STDOUT_FILENO, b" ");
-        io::print_hex(STDOUT_FILENO, crc16::crc16_ninty(&image[CUT..]) as u64, 4);
-        io::write_all(STDOUT_FILENO, b"\n");
-    }
+fn show_sums(rt: &impl Print, image: &[u8]) -> io::Result<()> {
+    let Some((first, rest)) = image.split_at_checked(CUT) else {
+        return Ok(());
+    };
+    let first = crc16::crc16_ninty(first);
+    let rest = crc16::crc16_ninty(rest);
+    println!(rt; "sums {first:04x} {rest:04x}")
 }
 
 // Opens, and shows the answer and the mapping's len.
-fn show_open(image: &[u8]) -> Mapping {
+fn show_open(rt: &impl Print, image: &[u8]) -> io::Result<Mapping> {
     let o = wear_leveling::open(image);
-    let answer = o.answer;
-    let m = o.mapping;
-    say(b"open ", answer);
-    tell(b" len ", wear_leveling::len(m) as u64);
-    io::write_all(STDOUT_FILENO, b"\n");
-    m
+    let number = o.answer.number();
+    let place = o.answer.place();
+    let len = wear_leveling::len(o.mapping);
+    println!(rt; "open {number} place {place} len {len}")?;
+    Ok(o.mapping)
 }
 
 // Reads one byte, and shows the answer and the buffer.
-fn show_read(image: &[u8], m: Mapping, place: usize) {
+fn show_read(rt: &impl Print, image: &[u8], m: Mapping, at: usize) -> io::Result<()> {
     let mut buf = [BEFORE; 1];
-    let o = wear_leveling::read(image, m, place, &mut buf);
-    let answer = o.answer;
-    say(b"read ", answer);
-    tell_byte(buf[0]);
+    let o = wear_leveling::read(image, m, at, &mut buf);
+    let number = o.answer.number();
+    let place = o.answer.place();
+    let [byte] = buf;
+    println!(rt; "read {number} place {place} byte {byte}")
 }
 
 // Writes one byte, and shows the answer.
-fn show_write(image: &mut [u8], m: Mapping, place: usize) -> Mapping {
-    let bytes = [WRITTEN; 1];
-    let o = wear_leveling::write(image, m, place, &bytes);
-    let answer = o.answer;
-    say(b"write ", answer);
-    io::write_all(STDOUT_FILENO, b"\n");
-    o.mapping
+fn show_write(rt: &impl Print, image: &mut [u8], m: Mapping, at: usize) -> io::Result<Mapping> {
+    let o = wear_leveling::write(image, m, at, &[WRITTEN; 1]);
+    let number = o.answer.number();
+    let place = o.answer.place();
+    println!(rt; "write {number} place {place}")?;
+    Ok(o.mapping)
 }
 
 // Commits, and shows the answer.
-fn show_commit(image: &mut [u8], m: Mapping) {
+fn show_commit(rt: &impl Print, image: &mut [u8], m: Mapping) -> io::Result<()> {
     let o = wear_leveling::commit(image, m);
-    let answer = o.answer;
-    say(b"commit ", answer);
-    io::write_all(STDOUT_FILENO, b"\n");
-}
-
-// The last place of so many bytes, 0 where there are none.
-fn last_of(len: usize) -> usize {
-    if 0 < len {
-        return len - 1;
-    }
-    0
+    let number = o.answer.number();
+    let place = o.answer.place();
+    println!(rt; "commit {number} place {place}")
 }
 
 // Formats, and shows the answer with the sums before and after.
-fn show_format(image: &mut [u8]) {
-    show_sums(image);
-    say(b"format ", wear_leveling::format(image));
-    io::write_all(STDOUT_FILENO, b"\n");
-    show_sums(image);
+fn show_format(rt: &impl Print, image: &mut [u8]) -> io::Result<()> {
+    show_sums(rt, image)?;
+    let answer = wear_leveling::format(image);
+    let number = answer.number();
+    let place = answer.place();
+    println!(rt; "format {number} place {place}")?;
+    show_sums(rt, image)
+}
+
+// The save's last byte, 0 where it has none.
+fn last_of(m: Mapping) -> usize {
+    wear_leveling::len(m).saturating_sub(1)
 }
 
 // Opens, and shows the save's last byte.
-fn show_last(image: &[u8]) -> Mapping {
-    let m = show_open(image);
-    show_read(image, m, last_of(wear_leveling::len(m)));
-    m
+fn show_last(rt: &impl Print, image: &[u8]) -> io::Result<Mapping> {
+    let m = show_open(rt, image)?;
+    show_read(rt, image, m, last_of(m))?;
+    Ok(m)
 }
 
 // Writes the save's last byte, reads it and commits.
-fn show_change(image: &mut [u8], m: Mapping) {
-    let place = last_of(wear_leveling::len(m));
-    let written = show_write(image, m, place);
-    show_read(image, written, place);
-    show_commit(image, written);
-    show_sums(image);
+fn show_change(rt: &impl Print, image: &mut [u8], m: Mapping) -> io::Result<()> {
+    let at = last_of(m);
+    let written = show_write(rt, image, m, at)?;
+    show_read(rt, image, written, at)?;
+    show_commit(rt, image, written)?;
+    show_sums(rt, image)
 }
 
 // All calls on one image.
-fn show_calls(image: &mut [u8]) {
-    show_format(image);
-    let m = show_last(image);
-    show_change(image, m);
-    show_last(image);
+fn show_calls(rt: &impl Print, image: &mut [u8]) -> io::Result<()> {
+    show_format(rt, image)?;
+    let m = show_last(rt, image)?;
+    show_change(rt, image, m)?;
+    show_last(rt, image)?;
+    Ok(())
 }
 
 // All calls on an image of this length, filled with b.
-fn show_image(len: usize, b: u8) {
+fn show_image(rt: &impl Print, len: usize, b: u8) -> io::Result<()> {
     let mut room = image_of(b);
-    if len <= room.len() {
-        tell(b"length ", len as u64);
-        tell(b" of ", b as u64);
-        io::write_all(STDOUT_FILENO, b"\n");
-        show_calls(&mut room[0..len]);
+    let Some(image) = room.get_mut(..len) else {
+        return Ok(());
+    };
+    println!(rt; "length {len} of {b}")?;
+    show_calls(rt, image)
+}
+
+fn main(rt: HostRuntime) -> io::Result<()> {
+    for len in [0x20000, 0x80000, 0x100000, 0x1FFFF, 0x40000, 0x100001] {
+        show_image(&rt, len, 0)?;
+        show_image(&rt, len, 0xFF)?;
     }
-}
-
-// The same for both fillings.
-fn show_both(len: usize) {
-    show_image(len, 0);
-    show_image(len, 0xFF);
-}
-
-fn main() {
-    show_both(0x20000);
-    show_both(0x80000);
-    show_both(0x100000);
-    show_both(0x1FFFF);
-    show_both(0x40000);
-    show_both(0x100001);
+    Ok(())
 }

@@ -2,31 +2,23 @@
 #![tactic(auto)]
 
 use chip::Chip;
-
-// Standard output.
-const STDOUT_FILENO: i32 = 1;
-
-fn number(n: usize) {
-    io::print_decimal(STDOUT_FILENO, n as u64);
-    io::write_all(STDOUT_FILENO, b" ");
-}
+use std::io;
 
 // One line of the table: length, P, V, map bytes, item, sum at, journal at, slots, save bytes.
-fn line(kind: Chip) {
-    number(Chip::image_len(kind));
-    number(Chip::physical_blocks(kind));
-    number(Chip::virtual_blocks(kind));
-    number(Chip::map_len(kind));
-    number(Chip::item_len(kind));
-    number(Chip::map_len(kind));
-    number(Chip::journal_start(kind));
-    number(Chip::slots(kind));
-    io::print_decimal(STDOUT_FILENO, Chip::save_len(kind) as u64);
-    io::write_all(STDOUT_FILENO, b"\n");
+fn line(rt: &impl Print, kind: Chip) -> io::Result<()> {
+    let len = Chip::image_len(kind);
+    let p = Chip::physical_blocks(kind);
+    let v = Chip::virtual_blocks(kind);
+    let map = Chip::map_len(kind);
+    let item = Chip::item_len(kind);
+    let journal = Chip::journal_start(kind);
+    let slots = Chip::slots(kind);
+    let save = Chip::save_len(kind);
+    println!(rt; "{len} {p} {v} {map} {item} {map} {journal} {slots} {save}")
 }
 
-fn main() {
-    line(Chip::Kib128);
-    line(Chip::Kib512);
-    line(Chip::Mib1);
+fn main(rt: HostRuntime) -> io::Result<()> {
+    line(&rt, Chip::Kib128)?;
+    line(&rt, Chip::Kib512)?;
+    line(&rt, Chip::Mib1)
 }

@@ -4,10 +4,10 @@
 // `stdout`.
 #![tactic(auto)]
 
-ghost use Rattle.std.specs.Prelude.{◌≡◌, ◌<◌, ◌≤◌, length};
-ghost use Rattle.chip.specs.Figures.{block_len};
+ghost use Rattle.std.specs.Prelude.{◌<◌};
 
-use chip::{Chip, ChipOf};
+use chip::Chip;
+use mapping::Condition;
 
 // Standard input.
 const STDIN_FILENO: i32 = 0;
@@ -16,66 +16,71 @@ const STDIN_FILENO: i32 = 0;
 const STDOUT_FILENO: i32 = 1;
 
 // Stores the lowest eight bits of a number, if there is such a place.
-fn set(zero: &mut [u8], at: usize, b: u32) {
-    if at < zero.len() {
-        zero[at] = (b % 256) as u8;
+fn set(zero: &mut [u8; Chip::BLOCK], at: usize, b: u32) {
+    if let Some(byte) = zero.get_mut(at) {
+        let [low, ..] = b.to_le_bytes();
+        *byte = low;
     }
 }
 
 // Stores the sum of the map, low byte first.
-fn seal(zero: &mut [u8], kind: Chip) {
+fn seal(zero: &mut [u8; Chip::BLOCK], kind: Chip) {
     let end = Chip::map_len(kind);
-    if end < zero.len() {
-        let sum = crc16::crc16_ninty(&zero[0..end]) as u32;
-        set(zero, end, sum);
-        set(zero, end + 1, sum / 256);
-    }
+    let sum = crc16::crc16_ninty(&zero[..end]);
+    zero[end..end + 2].copy_from_slice(&sum.to_le_bytes());
 }
 
 // Stores block v's item: on small chips the number comes first, on large ones the count.
-fn put_item(zero: &mut [u8], kind: Chip, used: u32, v: u32, number: u32, count: u32) {
-    if Chip::is_large(kind) {
-        let at = Chip::HEADER + v as usize * Chip::LARGE_ITEM;
-        set(zero, at, used | count);
-        set(zero, at + 1, number);
+fn put_item(
+    zero: &mut [u8; Chip::BLOCK],
+    kind: Chip,
+    condition: Condition,
+    v: u32,
+    number: u32,
+    count: u32,
+) {
+    let used = if condition.is_free() {
+        0
     } else {
-        let at = Chip::HEADER + v as usize * Chip::SMALL_ITEM;
-        set(zero, at, used | number);
-        set(zero, at + 1, count);
-    }
+        u32::from(Chip::IN_USE)
+    };
+    let (head, next) = if Chip::is_large(kind) {
+        (count, number)
+    } else {
+        (number, count)
+    };
+    let at = Chip::HEADER + v as usize * Chip::item_len(kind);
+    set(zero, at, used | head);
+    set(zero, at + 1, next);
 }
 
 // Stores byte i of a slot.
-fn set_slot(zero: &mut [u8], kind: Chip, slot: u32, i: u32, b: u32) {
+fn set_slot(zero: &mut [u8; Chip::BLOCK], kind: Chip, slot: u32, i: u32, b: u32) {
     let at = Chip::journal_start(kind) + slot as usize * Chip::SLOT;
     set(zero, at + i as usize, b);
 }
 
 // Stores an entry with tickets of zero, twice: a[1] is the slot, and v, w, p, q, c and d follow.
-fn put_entry(zero: &mut [u8], kind: Chip, a: [u32; 8]) {
+fn put_entry(zero: &mut [u8; Chip::BLOCK], kind: Chip, a: [u32; 8]) {
     let slot = a[1];
-    let mut i: usize = 0;
-    while i < 14 {
+    for i in 0..14 {
         let b = if i < 6 { a[i + 2] } else { 0 };
         set_slot(zero, kind, slot, i as u32, b);
         set_slot(zero, kind, slot, i as u32 + 14, b);
-        i += 1;
     }
 }
 
 // Stores entries in the first n slots with which block 0 goes to and fro between two physical blocks.
-fn put_moves(zero: &mut [u8], kind: Chip, n: u32) {
+fn put_moves(zero: &mut [u8; Chip::BLOCK], kind: Chip, n: u32) {
     let last = Chip::virtual_blocks(kind) as u32;
-    let mut k: u32 = 0;
-    while k < n {
+    for k in 0..n {
         let to = if k % 2 == 0 { last } else { 1 };
         let from = if k % 2 == 0 { 1 } else { last };
         put_entry(
             zero,
             kind,
-            [0, k, 0, last - 1, to, from, k / 2 + 1, (k + 1) / 2],
+            [0, k, 0, last - 1, to, from, k / 2 + 1, k.div_ceil(2)],
         );
-        k += 1;
     }
 }
 
@@ -91,25 +96,19 @@ fn word_after(k: usize, b: u8) -> usize
 
 // A number with one more digit; a letter changes nothing.
 fn with_digit(n: u32, b: u8) -> u32 {
-    if b < b'0' {
-        return n;
+    match b {
+        b'0'..=b'9' => n % 0x1000000 * 10 + u32::from(b - b'0'),
+        _ => n,
     }
-    if b'9' < b {
-        return n;
-    }
-    n % 0x1000000 * 10 + (b - b'0') as u32
 }
 
 // The numbers of a line, one for each of its first eight words; 0 for a word of letters.
 fn numbers(line: &[u8]) -> [u32; 8] {
     let mut a = [0u32; 8];
     let mut k: usize = 0;
-    let mut i: usize = 0;
-    while i < line.len() {
-        let b = line[i];
-        k = word_after(k, b);
-        a[k] = with_digit(a[k], b);
-        i += 1;
+    for b in line {
+        k = word_after(k, *b);
+        a[k] = with_digit(a[k], *b);
     }
     a
 }
@@ -128,21 +127,17 @@ fn chip_after(kind: Chip, word: u8, len: usize) -> Chip {
     if word != b'f' {
         return kind;
     }
-    let known = Chip::from_len(len);
-    match known {
-        ChipOf::Known(next) => next,
-        ChipOf::Unknown => kind,
-    }
+    Chip::from_len(len).unwrap_or(kind)
 }
 
 // The orders that store bytes.
-fn change(zero: &mut [u8], kind: Chip, word: u8, a: [u32; 8]) {
+fn change(zero: &mut [u8; Chip::BLOCK], kind: Chip, word: u8, a: [u32; 8]) {
     match word {
         b'b' => set(zero, a[1] as usize, a[2]),
         b't' => set_slot(zero, kind, a[1], a[2], a[3]),
         b's' => seal(zero, kind),
-        b'i' => put_item(zero, kind, 0, a[1], a[2], a[3]),
-        b'u' => put_item(zero, kind, Chip::IN_USE as u32, a[1], a[2], a[3]),
+        b'i' => put_item(zero, kind, Condition::Free, a[1], a[2], a[3]),
+        b'u' => put_item(zero, kind, Condition::Clean, a[1], a[2], a[3]),
         b'e' => put_entry(zero, kind, a),
         b'm' => put_moves(zero, kind, a[1]),
         _ => {}
@@ -150,13 +145,10 @@ fn change(zero: &mut [u8], kind: Chip, word: u8, a: [u32; 8]) {
 }
 
 // Does what a line says with block zero of this chip, and hands back the chip to go on with.
-fn obey(zero: &mut [u8], kind: Chip, line: &[u8]) -> Chip
-    requires { length zero.old ≡ block_len }
-{
-    if line.len() == 0 {
+fn obey(zero: &mut [u8; Chip::BLOCK], kind: Chip, line: &[u8]) -> Chip {
+    let Some(word) = line.first().copied() else {
         return kind;
-    }
-    let word = line[0];
+    };
     let a = numbers(line);
     let next = chip_after(kind, word, a[1] as usize);
     if word == b'f' {
@@ -171,30 +163,12 @@ fn obey(zero: &mut [u8], kind: Chip, line: &[u8]) -> Chip
     next
 }
 
-// Where the line that begins at `at` ends: at its newline, or at `n` where it has none.
-fn line_end(input: &[u8], at: usize, n: usize) -> usize
-    requires { (at ≤ n) × (n ≤ length input.now) }
-    ensures { (at ≤ result) × (result ≤ n) }
-{
-    let mut end = at;
-    while end < n {
-        if input[end] == b'\n' {
-            return end;
-        }
-        end += 1;
-    }
-    n
-}
-
 fn main() {
     let mut input = io::large_buffer();
     let n = io::read_full(STDIN_FILENO, &mut input);
     let mut zero = io::buffer();
     let mut kind = Chip::Kib128;
-    let mut at: usize = 0;
-    while at < n {
-        let end = line_end(&input, at, n);
-        kind = obey(&mut zero, kind, &input[at..end]);
-        at = end + 1;
+    for line in input[..n].split(|b| *b == b'\n') {
+        kind = obey(&mut zero, kind, line);
     }
 }

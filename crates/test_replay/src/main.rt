@@ -9,17 +9,12 @@
 // replayed.
 #![tactic(auto)]
 
-ghost use Rattle.std.specs.Prelude.{◌≤◌};
-
 use answers::Answer;
-use chip::{Chip, ChipOf};
-use mapping::{Block, Condition, Mapping, Outcome};
+use chip::Chip;
+use mapping::{Block, Mapping, Outcome};
 
 // Standard input.
 const STDIN_FILENO: i32 = 0;
-
-// Standard output.
-const STDOUT_FILENO: i32 = 1;
 
 // What a record holds: bytes with their sum, an image with what open gives, or such an image with a run of calls.
 #[derive(Clone, Copy)]
@@ -27,6 +22,25 @@ enum Kind {
     Sum,
     Image,
     Run,
+}
+
+// A call of a run.
+#[derive(Clone, Copy)]
+enum Call {
+    Read,
+    Write,
+    Commit,
+}
+
+// The call that a byte of a record names.
+impl From<u8> for Call {
+    fn from(n: u8) -> Call {
+        match n {
+            0 => Call::Read,
+            1 => Call::Write,
+            _ => Call::Commit,
+        }
+    }
 }
 
 // Room for an image: as many blocks as the largest chip has, and a byte for the length that is one too many.
@@ -40,33 +54,34 @@ fn blank_image() -> [u8; ROOM] {
     [0; ROOM]
 }
 
-// The next byte of the input.
+// The next bytes of the input.
+fn read_array<const N: usize>() -> [u8; N] {
+    let mut bytes = [0; N];
+    io::read_full(STDIN_FILENO, &mut bytes);
+    bytes
+}
+
+// The next byte.
 fn read_u8() -> u8 {
-    let mut b = [0u8; 1];
-    io::read_full(STDIN_FILENO, &mut b);
-    b[0]
+    u8::from_le_bytes(read_array())
 }
 
 // The next two bytes, low byte first.
 fn read_u16() -> u16 {
-    let low = read_u8();
-    let high = read_u8();
-    high as u16 * 256 + low as u16
+    u16::from_le_bytes(read_array())
 }
 
 // The next four bytes, low byte first.
 fn read_u32() -> usize {
-    let low = read_u16();
-    let high = read_u16();
-    high as usize * 65536 + low as usize
+    u32::from_le_bytes(read_array()) as usize
 }
 
 // Reads the next n bytes to the start of buf, and says whether they were there and went in.
 fn read_bytes(buf: &mut [u8], n: usize) -> bool {
-    if n <= buf.len() {
-        return io::read_full(STDIN_FILENO, &mut buf[0..n]) == n;
+    match buf.get_mut(..n) {
+        Some(part) => io::read_full(STDIN_FILENO, part) == n,
+        None => false,
     }
-    false
 }
 
 // Replays a sum of as many bytes as are lent.
@@ -77,41 +92,23 @@ fn sum_agrees(bytes: &mut [u8]) -> bool {
 
 // What the original calls an answer of open: 1 a wrong size, 2 a wrong signature, 3 an invalid value.
 fn class_of(number: u8) -> u8 {
-    if number <= 1 {
-        return number;
-    }
-    if (number == 3) | (number == 5) | (number == 6) {
-        return 3;
-    }
-    2
-}
-
-// The number that a condition is recorded as.
-fn condition_number(condition: Condition) -> u8 {
-    match condition {
-        Condition::Free => 0,
-        Condition::Clean => 1,
-        Condition::Changed => 2,
+    match number {
+        0 | 1 => number,
+        3 | 5 | 6 => 3,
+        _ => 2,
     }
 }
 
-// Whether a block is as recorded.
+// Whether a block is as recorded: a free condition as 0, a clean one as 1, a changed one as 2.
 fn block_agrees(b: Block) -> bool {
-    let condition = b.condition;
-    let physical = b.physical.0 == read_u8();
-    let count = b.count == read_u8();
-    physical & count & (condition_number(condition) == read_u8())
+    [b.physical.0, b.count, b.condition as u8] == read_array()
 }
 
 // Whether all blocks are as recorded.
 fn blocks_agree(m: Mapping, kind: Chip) -> bool {
-    let n = Chip::virtual_blocks(kind);
     let mut ok = true;
-    let mut v: usize = 0;
-    while v < n {
-        let b = m.blocks[v];
-        ok = ok & block_agrees(b);
-        v += 1;
+    for b in &m.blocks[..Chip::virtual_blocks(kind)] {
+        ok &= block_agrees(*b);
     }
     ok
 }
@@ -121,27 +118,21 @@ fn tickets_agree(m: Mapping, kind: Chip) -> bool {
     if Chip::is_large(kind) {
         return true;
     }
-    let n = Chip::virtual_blocks(kind) * Chip::SECTORS;
     let mut ok = true;
-    let mut i: usize = 0;
-    while i < n {
-        ok = ok & (m.tickets[i] == read_u8());
-        i += 1;
+    for t in &m.tickets[..Chip::virtual_blocks(kind) * Chip::SECTORS] {
+        ok &= *t == read_u8();
     }
     ok
 }
 
 // Whether the mapping is as recorded for an image of this length.
 fn mapping_agrees(m: Mapping, len: usize) -> bool {
-    let known = Chip::from_len(len);
-    match known {
-        ChipOf::Known(kind) => {
-            let blocks = blocks_agree(m, kind);
-            let tickets = tickets_agree(m, kind);
-            (m.image_len() == len) & blocks & tickets
-        }
-        ChipOf::Unknown => false,
-    }
+    let Some(kind) = Chip::from_len(len) else {
+        return false;
+    };
+    let blocks = blocks_agree(m, kind);
+    let tickets = tickets_agree(m, kind);
+    (m.image_len() == len) & blocks & tickets
 }
 
 // Whether open gave what is recorded for an image of this length.
@@ -158,79 +149,64 @@ fn open_agrees(answer: Answer, m: Mapping, len: usize) -> bool {
 
 // The byte that a recorded image has at a place: block zero is erased, before the bytes that are kept of it.
 fn data_byte(place: usize) -> u8 {
-    let sector = place / Chip::SECTOR;
     if place < Chip::BLOCK {
         return Chip::ERASED;
     }
-    if place % 2 == 0 {
-        return (sector % 256) as u8;
-    }
-    (sector / 256 % 256) as u8
+    let sector = (place / Chip::SECTOR).to_le_bytes();
+    sector[place % 2]
 }
 
 // Lays the bytes that a recorded image has where none are kept.
 fn lay_data(image: &mut [u8]) {
-    let mut at: usize = 0;
-    while at < image.len() {
-        image[at] = data_byte(at);
-        at += 1;
+    for (at, b) in image.iter_mut().enumerate() {
+        *b = data_byte(at);
     }
 }
 
 // Makes the bytes of a write; a read finds them in its buffer.
 fn lay_bytes(bytes: &mut [u8], first: u8) {
-    let mut j: usize = 0;
-    while j < bytes.len() {
-        bytes[j] = ((first as usize + j % 256 + j / 256 % 256) % 256) as u8;
-        j += 1;
+    for (j, b) in bytes.iter_mut().enumerate() {
+        let [low, high, ..] = j.to_le_bytes();
+        *b = first.wrapping_add(low).wrapping_add(high);
     }
 }
 
-// Makes a recorded call: a read, a write or a commit.
-fn call(image: &mut [u8], m: Mapping, kind: u8, place: usize, bytes: &mut [u8]) -> Outcome {
-    if kind == 0 {
-        return wear_leveling::read(image, m, place, bytes);
+// Makes a recorded call.
+fn make_call(image: &mut [u8], m: Mapping, call: Call, place: usize, bytes: &mut [u8]) -> Outcome {
+    match call {
+        Call::Read => wear_leveling::read(image, m, place, bytes),
+        Call::Write => wear_leveling::write(image, m, place, bytes),
+        Call::Commit => wear_leveling::commit(image, m),
     }
-    if kind == 1 {
-        return wear_leveling::write(image, m, place, bytes);
-    }
-    wear_leveling::commit(image, m)
 }
 
 // Whether the map and the rest of the image have these sums.
 fn image_sums_are(image: &[u8], sum: u16, rest: u16) -> bool {
-    let known = Chip::from_len(image.len());
-    match known {
-        ChipOf::Known(kind) => {
-            let end = Chip::map_len(kind);
-            if end <= image.len() {
-                let map = crc16::crc16_ninty(&image[0..end]) == sum;
-                return map & (crc16::crc16_ninty(&image[end..]) == rest);
-            }
-            false
-        }
-        ChipOf::Unknown => false,
-    }
+    let Some(kind) = Chip::from_len(image.len()) else {
+        return false;
+    };
+    let Some((map, behind)) = image.split_at_checked(Chip::map_len(kind)) else {
+        return false;
+    };
+    (crc16::crc16_ninty(map) == sum) & (crc16::crc16_ninty(behind) == rest)
 }
 
 // Whether what a call left has the recorded sums: a read its buffer, another the image.
-fn sums_agree(kind: u8, image: &[u8], bytes: &[u8]) -> bool {
+fn sums_agree(call: Call, image: &[u8], bytes: &[u8]) -> bool {
     let sum = read_u16();
     let rest = read_u16();
-    if kind == 0 {
-        return crc16::crc16_ninty(bytes) == sum;
+    match call {
+        Call::Read => crc16::crc16_ninty(bytes) == sum,
+        Call::Write | Call::Commit => image_sums_are(image, sum, rest),
     }
-    image_sums_are(image, sum, rest)
 }
 
 // Replays a call whose bytes are lent. Gives the mapping to go on with: the blank one, which every later call refuses and no
 // run ends with, where the call is refused or leaves other bytes.
-fn step_on(image: &mut [u8], m: Mapping, kind: u8, place: usize, bytes: &mut [u8]) -> Mapping {
+fn step_on(image: &mut [u8], m: Mapping, call: Call, place: usize, bytes: &mut [u8]) -> Mapping {
     lay_bytes(bytes, read_u8());
-    let o = call(image, m, kind, place, bytes);
-    let answer = o.answer;
-    let same = sums_agree(kind, image, bytes);
-    if same & (answer.number() == 0) {
+    let o = make_call(image, m, call, place, bytes);
+    if sums_agree(call, image, bytes) && o.answer == Answer::Accepted {
         return o.mapping;
     }
     Mapping::blank()
@@ -238,24 +214,21 @@ fn step_on(image: &mut [u8], m: Mapping, kind: u8, place: usize, bytes: &mut [u8
 
 // Replays the next step of a run, and gives the mapping to go on with.
 fn step(image: &mut [u8], m: Mapping) -> Mapping {
-    let kind = read_u8();
+    let call = Call::from(read_u8());
     let place = read_u32();
     let n = read_u32();
     let mut bytes = io::large_buffer();
-    if n <= bytes.len() {
-        return step_on(image, m, kind, place, &mut bytes[0..n]);
+    match bytes.get_mut(..n) {
+        Some(part) => step_on(image, m, call, place, part),
+        None => Mapping::blank(),
     }
-    Mapping::blank()
 }
 
 // Replays a run's steps from the mapping that open gave, and compares the last mapping.
 fn run_agrees(image: &mut [u8], opened: Mapping) -> bool {
-    let n = read_u16();
     let mut m = opened;
-    let mut i: u16 = 0;
-    while i < n {
+    for _ in 0..read_u16() {
         m = step(image, m);
-        i += 1;
     }
     mapping_agrees(m, image.len())
 }
@@ -266,11 +239,9 @@ fn image_agrees(image: &mut [u8], runs: bool) -> bool {
     let kept = read_u16();
     let there = read_bytes(image, kept as usize);
     let o = wear_leveling::open(image);
-    let answer = o.answer;
-    let m = o.mapping;
-    let opened = open_agrees(answer, m, image.len());
+    let opened = open_agrees(o.answer, o.mapping, image.len());
     if runs {
-        return run_agrees(image, m) & opened & there;
+        return run_agrees(image, o.mapping) & opened & there;
     }
     opened & there
 }
@@ -278,65 +249,55 @@ fn image_agrees(image: &mut [u8], runs: bool) -> bool {
 // Replays one record: each begins with a length.
 fn record_agrees(room: &mut [u8], kind: Kind) -> bool {
     let len = read_u32();
-    if len <= room.len() {
-        match kind {
-            Kind::Sum => return sum_agrees(&mut room[0..len]),
-            Kind::Image => return image_agrees(&mut room[0..len], false),
-            Kind::Run => return image_agrees(&mut room[0..len], true),
+    let Some(part) = room.get_mut(..len) else {
+        return false;
+    };
+    match kind {
+        Kind::Sum => sum_agrees(part),
+        Kind::Image => image_agrees(part, false),
+        Kind::Run => image_agrees(part, true),
+    }
+}
+
+// Replays n records of a kind, and prints how many agreed and how many differed.
+fn replay_records(
+    rt: &impl Print,
+    room: &mut [u8; ROOM],
+    kind: Kind,
+    name: &str,
+    n: usize,
+) -> std::io::Result<()> {
+    let mut agree: usize = 0;
+    let mut differ: usize = 0;
+    for _ in 0..n {
+        if record_agrees(room, kind) {
+            agree += 1;
+        } else {
+            differ += 1;
         }
     }
-    false
-}
-
-// 1 for true.
-fn one(b: bool) -> usize
-    ensures { result ≤ 1 }
-{
-    if b { 1 } else { 0 }
-}
-
-// Prints how many of n records of a kind agreed.
-fn report(name: &[u8], agree: usize, n: usize)
-    requires { agree ≤ n }
-{
-    io::write_all(STDOUT_FILENO, name);
-    io::print_decimal(STDOUT_FILENO, agree as u64);
-    io::write_all(STDOUT_FILENO, b" agree, ");
-    io::print_decimal(STDOUT_FILENO, (n - agree) as u64);
-    io::write_all(STDOUT_FILENO, b" differ\n");
-}
-
-// Replays n records of a kind.
-fn replay_records(room: &mut [u8; ROOM], kind: Kind, name: &[u8], n: usize) {
-    let mut agree: usize = 0;
-    let mut i: usize = 0;
-    while i < n {
-        agree += one(record_agrees(room, kind));
-        i += 1;
-    }
-    report(name, agree, n);
+    println!(rt; "{name} {agree} agree, {differ} differ")
 }
 
 // Replays the three kinds, in the file's order.
-fn replay() {
+fn replay(rt: &impl Print) -> std::io::Result<()> {
     let mut room = blank_image();
     let sums = read_u32();
     let images = read_u32();
     let runs = read_u32();
-    replay_records(&mut room, Kind::Sum, b"sums ", sums);
-    replay_records(&mut room, Kind::Image, b"images ", images);
-    replay_records(&mut room, Kind::Run, b"runs ", runs);
+    replay_records(rt, &mut room, Kind::Sum, "sums", sums)?;
+    replay_records(rt, &mut room, Kind::Image, "images", images)?;
+    replay_records(rt, &mut room, Kind::Run, "runs", runs)
 }
 
-fn main() {
+fn main(rt: HostRuntime) -> std::io::Result<()> {
     if read_u32() != MARK {
-        io::write_all(STDOUT_FILENO, b"no recorded answers\n");
-        return;
+        return println!(rt; "no recorded answers");
     }
-    replay();
+    replay(&rt)?;
     let marked = read_u32() == MARK;
-    let mut past = [0u8; 1];
-    if !marked | read_bytes(&mut past, 1) {
-        io::write_all(STDOUT_FILENO, b"the recorded answers do not end here\n");
+    if !marked | read_bytes(&mut [0; 1], 1) {
+        println!(rt; "the recorded answers do not end here")?;
     }
+    Ok(())
 }

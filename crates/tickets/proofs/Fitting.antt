@@ -1,6 +1,7 @@
 -- What a mapping that fits an image of n bytes has: n is a chip's length and the mapping's, and by that chip's layout its
 -- numbers are apart, its reserved block is free, it lies in the image, and its save is that of the chip. And back: these facts
 -- make it fit. Assumes nothing.
+use Rattle.std.specs.Prelude.{Some}
 use mathlib.Core.Path.{◌≡◌, sym, ap, ◌∙◌}
 use mathlib.Core.Bool.{true}
 use mathlib.Core.List.{List}
@@ -11,7 +12,6 @@ use lib.Dec.{eqb}
 use lib.ListN.{length}
 use Rattle.lists.proofs.Tests.{and_both}
 use Rattle.chip.specs.declared.Chip.{Chip}
-use Rattle.chip.specs.declared.ChipOf.TheVariants.{Known}
 use Rattle.chip.specs.Figures.{layout_of, virtuals, block_len, image_len, save_len, from_len}
 use Rattle.chip.proofs.Layouts.{sound, from_is, from_own}
 use Rattle.mapping.specs.declared.Mapping.{Mapping}
@@ -24,7 +24,7 @@ use Rattle.mapping.proofs.Fitted.{fits_fitted}
 use Rattle.tickets.specs.Tickets.{Lies}
 
 -- an image of a chip's length has a block zero
-pub known_long : (n : ℕ) (k : Chip) → from_len n ≡ Known k → block_len ≤ n
+pub known_long : (n : ℕ) (k : Chip) → from_len n ≡ Some k → block_len ≤ n
 known_long n k e = omega (arith, from_is n k e, (sound k).some)
 
 module _ (n : ℕ) (m : Mapping) (f : fits n m ≡ true) where
@@ -34,10 +34,10 @@ module _ (n : ℕ) (m : Mapping) (f : fits n m ≡ true) where
   pub fits_len : m.len ≡ n
   fits_len = fitted.own
 
-  module _ (k : Chip) (e : from_len n ≡ Known k) where
+  module _ (k : Chip) (e : from_len n ≡ Some k) where
     -- there is one chip of n bytes
     same : fitted.chip ≡ k
-    same = let d : Known fitted.chip ≡ Known k = sym (ap from_len fitted.image ∙ from_own fitted.chip) ∙ e in cc
+    same = let d : Some fitted.chip ≡ Some k = sym (ap from_len fitted.image ∙ from_own fitted.chip) ∙ e in cc
 
     -- "its first V physical numbers [are] 1..P−1 each once"
     pub fits_apart : Apart m (virtuals (layout_of k))
@@ -52,12 +52,12 @@ module _ (n : ℕ) (m : Mapping) (f : fits n m ≡ true) where
     -- its save is the chip's
     pub fits_save : len_of m ≡ save_len (layout_of k)
     unfolding len_of
-    fits_save = let d : from_len m.len ≡ Known k = ap from_len fits_len ∙ e in rw d
+    fits_save = let d : from_len m.len ≡ Some k = ap from_len fits_len ∙ e in rw d
 
 -- the other way
 pub fits_by
     : (n : ℕ) (m : Mapping) (k : Chip)
-    → from_len n ≡ Known k → m.len ≡ n → Apart m (virtuals (layout_of k)) → reserved_free (layout_of k) m ≡ true → fits n m ≡ true
+    → from_len n ≡ Some k → m.len ≡ n → Apart m (virtuals (layout_of k)) → reserved_free (layout_of k) m ≡ true → fits n m ≡ true
 fits_by n m k known e a r =
     fits_is m n
     ∙ and_both (eqb m.len n) (fits_own m) (eq-eqb m.len n e)
@@ -68,7 +68,7 @@ fits_by n m k known e a r =
 -- each of its blocks lies in the image, as those of any mapping with such numbers
 pub apart_lies
     : (image : List ℕ) (m : Mapping) (k : Chip)
-    → Apart m (virtuals (layout_of k)) → from_len (length image) ≡ Known k → Lies (layout_of k) m image
+    → Apart m (virtuals (layout_of k)) → from_len (length image) ≡ Some k → Lies (layout_of k) m image
 apart_lies image m k a e =
     record {
       within = λ v h. omega (arith, a.high v h, (sound k).some, from_is (length image) k e);
@@ -78,14 +78,14 @@ pub fits_lies
     : (image : List ℕ) (m : Mapping)
     → fits (length image) m ≡ true
     → (k : Chip)
-    → from_len (length image) ≡ Known k
+    → from_len (length image) ≡ Some k
     → Lies (layout_of k) m image
 fits_lies image m f k e = apart_lies image m k (fits_apart (length image) m f k e) e
 
 -- all of it at once: the mapping m fits an image of n bytes
 pub record Fitting (n : ℕ) (m : Mapping) : Type 0 where
   pub chip : Chip
-  pub known : from_len n ≡ Known chip
+  pub known : from_len n ≡ Some chip
   pub image : n ≡ image_len (layout_of chip)
   pub save : len_of m ≡ save_len (layout_of chip)
   pub numbers : Apart m (virtuals (layout_of chip))
@@ -93,7 +93,7 @@ pub record Fitting (n : ℕ) (m : Mapping) : Type 0 where
 pub fitting : (n : ℕ) (m : Mapping) → fits n m ≡ true → Fitting n m
 fitting n m f =
     let r = fits_fitted n m f in
-    let known : from_len n ≡ Known r.chip = ap from_len r.image ∙ from_own r.chip in
+    let known : from_len n ≡ Some r.chip = ap from_len r.image ∙ from_own r.chip in
     record {
       chip = r.chip;
       known = known;

@@ -1,14 +1,11 @@
 -- Step 7 of opening (01): the tickets of a small chip's sectors. It goes by a function that tells the ticket of a sector of a
 -- physical block, so that it can be said of an image and of gathered sums alike. Assumes nothing.
-use Rattle.std.specs.Prelude.{◌≡◌, Bool, not, ◌&&◌, List, ℕ, ◌+◌, ◌*◌, ◌/◌, ◌%◌, ◌<◌, ◌≤◌, eqb, length, get_or, take, drop}
+use Rattle.std.specs.Prelude.{◌≡◌, Bool, not, ◌&&◌, List, ℕ, ◌+◌, ◌*◌, ◌/◌, ◌%◌, ◌<◌, ◌≤◌, eqb, length, get_or, take, drop, Option, Some, None}
 use Rattle.lists.specs.Words.{pick}
 use Rattle.crc16.specs.Crc.{crc16, ticket_of}
 use Rattle.chip.specs.declared.Chip.{Chip}
-use Rattle.chip.specs.declared.ChipOf.TheVariants.{Known}
 use Rattle.chip.specs.Figures.{Layout, layout_of, from_len, virtuals, block_len, sector_len, sectors, by_chip}
 use Rattle.mapping.specs.declared.Block.{Block}
-use Rattle.answers.specs.declared.Found.{Found}
-use Rattle.answers.specs.declared.Found.TheVariants.{Nothing}
 use Rattle.mapping.specs.declared.Mapping.{Mapping}
 use Rattle.mapping.specs.Blocks.{is_free, block_at, number_at}
 use Rattle.answers.specs.Search.{first_of}
@@ -33,8 +30,8 @@ unfoldable pub fails_at : (ℕ → ℕ → ℕ) → Mapping → ℕ → Bool
 fails_at ticket_at m s = sector_fails ticket_at (block_at m (s / sectors)) (s % sectors) (get_or m.tickets s 0)
 
 -- "small chips: for each in-use block going up, each sector going up": the first that fails
-unfoldable pub bad_ticket : Layout → (ℕ → ℕ → ℕ) → Mapping → Found
-bad_ticket l ticket_at m = pick l.large Nothing (first_of (fails_at ticket_at m) (virtuals l * sectors))
+unfoldable pub bad_ticket : Layout → (ℕ → ℕ → ℕ) → Mapping → Option ℕ
+bad_ticket l ticket_at m = pick l.large None (first_of (fails_at ticket_at m) (virtuals l * sectors))
 
 -- 7 on an image of this layout: "the ticket fits"
 abbrev pub step7 : Layout → List ℕ → Mapping → Outcome
@@ -50,4 +47,4 @@ pub record Lies (l : Layout) (m : Mapping) (image : List ℕ) : Type 0 where
 
 -- the same, where the image's length names the layout
 pub record LiesIn (m : Mapping) (image : List ℕ) : Type 0 where
-  pub lies : (k : Chip) → from_len (length image) ≡ Known k → Lies (layout_of k) m image
+  pub lies : (k : Chip) → from_len (length image) ≡ Some k → Lies (layout_of k) m image

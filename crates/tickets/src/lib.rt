@@ -1,13 +1,14 @@
 // Step 7 of opening: the tickets of a small chip's sectors.
 #![tactic(auto)]
 
-ghost use Rattle.std.specs.Prelude.{◌≡◌, ◌+◌, ◌*◌, ◌<◌, ◌≤◌, length};
+ghost use Rattle.std.specs.Prelude.{◌≡◌, ◌+◌, ◌*◌, ◌<◌, ◌≤◌, length, IfErr};
+ghost use Rattle.mapping.specs.Outcomes.{outcome_of, IsRefusal};
 ghost use Rattle.chip.specs.Figures.{layout_of, block_len, sectors};
 ghost use Rattle.tickets.specs.Tickets.{sector_place, ticket_in, sector_fails, bad_ticket, tickets_of, Lies, LiesIn};
 
-use answers::{Answer, Found};
-use chip::{Chip, ChipOf};
-use mapping::{Block, Mapping, Outcome, Physical};
+use answers::Answer;
+use chip::Chip;
+use mapping::{Block, Mapping, Physical};
 
 // Where sector j of a physical block stands in the image.
 pub fn sector_place(number: Physical, j: usize) -> usize
@@ -22,57 +23,44 @@ fn sector_fails(image: &[u8], b: Block, j: usize, stored: u8) -> bool
     requires { (j < sectors) × (b.physical.0 * block_len + block_len ≤ length image.now) }
     ensures { result ≡ sector_fails (ticket_in image.now) b j stored }
 {
-    let condition = b.condition;
-    if condition.is_free() {
+    if b.condition.is_free() {
         return false;
     }
-    let number = b.physical;
-    let at = sector_place(number, j);
-    let end = at + Chip::SECTOR;
-    crc16::ticket(&image[at..end]) != stored
+    let at = sector_place(b.physical, j);
+    crc16::ticket(&image[at..at + Chip::SECTOR]) != stored
 }
 
 // Step 7: the first sector of the first block whose ticket does not fit, as 8 × block + sector.
-fn bad_ticket(image: &[u8], m: Mapping, kind: Chip) -> Found
+fn bad_ticket(image: &[u8], m: Mapping, kind: Chip) -> Option<usize>
     requires { Lies (layout_of kind) m image.now }
     ensures { result ≡ bad_ticket (layout_of kind) (ticket_in image.now) m }
 {
-    let mut found = Found::Nothing;
+    let mut found = None;
     if Chip::is_large(kind) {
         return found;
     }
-    let v = Chip::virtual_blocks(kind);
-    let mut b: usize = 0;
-    'blocks: while b < v {
-        let block = m.blocks[b];
-        let mut j: usize = 0;
-        while j < Chip::SECTORS {
+    'blocks: for b in 0..Chip::virtual_blocks(kind) {
+        for j in 0..Chip::SECTORS {
             let s = b * Chip::SECTORS + j;
-            if sector_fails(image, block, j, m.tickets[s]) {
-                found = Found::At(s);
+            if sector_fails(image, m.blocks[b], j, m.tickets[s]) {
+                found = Some(s);
                 break 'blocks;
             }
-            j += 1;
         }
-        b += 1;
     }
     found
 }
 
 // Step 7 on an image of whatever length; a length that is no chip's was refused before.
-pub fn check_tickets(image: &[u8], m: Mapping) -> Outcome
+#[tactic(auto, unfolding(crate::specs::Tickets::tickets_of))]
+pub fn check_tickets(image: &[u8], m: Mapping) -> Result<Mapping, Answer>
     requires { LiesIn m image.now }
-    ensures { result ≡ tickets_of image.now m }
+    ensures value { outcome_of result ≡ tickets_of image.now m }
+    ensures refusal { IfErr result IsRefusal }
 {
-    let known = Chip::from_len(image.len());
-    match known {
-        ChipOf::Known(kind) => {
-            let bad = bad_ticket(image, m, kind);
-            match bad {
-                Found::At(s) => Outcome::refused(Answer::WrongTicket(s)),
-                Found::Nothing => Outcome::accepted(m),
-            }
-        }
-        ChipOf::Unknown => Outcome::refused(Answer::WrongLength),
+    let kind = Chip::from_len(image.len()).ok_or(Answer::WrongLength)?;
+    match bad_ticket(image, m, kind) {
+        Some(s) => Err(Answer::WrongTicket(s)),
+        None => Ok(m),
     }
 }

@@ -1,6 +1,7 @@
 -- What an accepted commit does, for those who work on: the save's bytes stay, since numbers start at 1 and block zero is all
 -- that is stored to; the mapping goes on fitting, since numbers and free blocks stay; and no block is changed any more.
 -- Assumes nothing.
+use Rattle.std.specs.Prelude.{Some}
 use mathlib.Core.Path.{◌≡◌, refl, sym, ap, ◌∙◌}
 use mathlib.Core.Bool.{true, false}
 use mathlib.Core.List.{List}
@@ -12,7 +13,6 @@ use lib.Seq.{get_or-drop}
 use Rattle.lists.proofs.Orders.{by_test}
 use Rattle.lists.proofs.Tabulate.{length-tabulate, get_or-tabulate, tabulate_ext}
 use Rattle.chip.specs.declared.Chip.{Chip}
-use Rattle.chip.specs.declared.ChipOf.TheVariants.{Known}
 use Rattle.chip.specs.Figures.{Layout, layout_of, virtuals, block_len, sectors, save_len, reserved, from_len, records}
 use Rattle.chip.proofs.Layouts.{sound}
 use Rattle.answers.specs.declared.Answer.TheVariants.{Accepted, DoesNotFit}
@@ -89,7 +89,7 @@ commit_fitting n m accepted =
 
 module _
     (image : List ℕ) (m : Mapping) (k : Chip)
-    (known : from_len (length image) ≡ Known k) (accepted : commit_answer (length image) m ≡ Accepted)
+    (known : from_len (length image) ≡ Some k) (accepted : commit_answer (length image) m ≡ Accepted)
   where
     few : virtuals (layout_of k) ≤ records
     few = omega (arith, (sound k).few)

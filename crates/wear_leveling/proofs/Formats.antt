@@ -1,13 +1,12 @@
 -- Formatting, by the image's length: a chip's length is accepted and block zero becomes the formatted one; any other is
 -- refused and the image stays; and behind block zero nothing is stored. Assumes nothing.
+use Rattle.std.specs.Prelude.{Option, Some, None}
 use mathlib.Core.Path.{◌≡◌, refl}
 use mathlib.Core.List.{List}
 use Prim.Native.Nat.{ℕ}
 use native.Mathlib.Omega.{arith}
 use lib.ListN.{length, drop}
 use Rattle.chip.specs.declared.Chip.{Chip}
-use Rattle.chip.specs.declared.ChipOf.{ChipOf}
-use Rattle.chip.specs.declared.ChipOf.TheVariants.{Known, Unknown}
 use Rattle.chip.specs.Figures.{layout_of, block_len, image_len, from_len, by_chip}
 use Rattle.chip.proofs.Layouts.{sound, from_own, from_is, from_none}
 use Rattle.answers.specs.declared.Answer.TheVariants.{Accepted, WrongLength}
@@ -40,6 +39,6 @@ pub format_behind : (z : List ℕ) → drop block_len (after_format z) ≡ drop 
 unfolding after_format
 format_behind z = go (from_len (length z)) refl
   where
-    go : (o : ChipOf) → from_len (length z) ≡ o → drop block_len (by_chip o (λ k. formatted (layout_of k) z) z) ≡ drop block_len z
-    go (Known k) e = formatted_behind (layout_of k) (sound k) z (omega (arith, from_is (length z) k e, (sound k).some))
-    go Unknown e = refl
+    go : (o : Option Chip) → from_len (length z) ≡ o → drop block_len (by_chip o (λ k. formatted (layout_of k) z) z) ≡ drop block_len z
+    go (Some k) e = formatted_behind (layout_of k) (sound k) z (omega (arith, from_is (length z) k e, (sound k).some))
+    go None e = refl

@@ -1,5 +1,6 @@
 pub mod Admission
 pub mod Commits
 pub mod Formats
+pub mod Granted
 pub mod Lying
 pub mod Short

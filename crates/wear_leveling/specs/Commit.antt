@@ -1,12 +1,10 @@
 -- Committing (01, "Working on an open image" and "Numbers handed back"): what it answers, and image and mapping afterwards.
 -- The mapping that it makes is in committing/Committed. Assumes nothing.
-use Rattle.std.specs.Prelude.{List, ℕ, length}
+use Rattle.std.specs.Prelude.{List, ℕ, length, Option, Some, None}
 use Rattle.lists.specs.Words.{pick}
 use Rattle.chip.specs.Figures.{Layout, layout_of, from_len, by_chip}
 use Rattle.answers.specs.declared.Answer.{Answer}
 use Rattle.answers.specs.declared.Answer.TheVariants.{Accepted, DoesNotFit, CountTooHigh}
-use Rattle.answers.specs.declared.Found.{Found}
-use Rattle.answers.specs.declared.Found.TheVariants.{At, Nothing}
 use Rattle.mapping.specs.declared.Mapping.{Mapping}
 use Rattle.mapping.specs.Fits.{fits}
 use Rattle.mapping.specs.Limits.{high_count}
@@ -16,9 +14,9 @@ use Rattle.save.specs.Visits.{State}
 use Rattle.wear_leveling.specs.Read.{if_accepted}
 
 -- 10 at the block that the search found
-abbrev pub unless_high : Found → Answer
-unless_high (At v) = CountTooHigh v
-unless_high Nothing = Accepted
+abbrev pub unless_high : Option ℕ → Answer
+unless_high (Some v) = CountTooHigh v
+unless_high None = Accepted
 
 -- "commit 8 then 10"
 unfoldable pub commit_answer : ℕ → Mapping → Answer

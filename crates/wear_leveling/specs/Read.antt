@@ -1,6 +1,6 @@
 -- Reading (01, "Working on an open image" and "Numbers handed back"): which ranges of the save read and write take, and what
 -- is in the buffer afterwards. Assumes nothing.
-use Rattle.std.specs.Prelude.{List, ℕ, eqb, length, take, drop}
+use Rattle.std.specs.Prelude.{List, ℕ, eqb, length, take, drop, Result, Ok, Err, ⊤}
 use Rattle.lists.specs.Words.{pick}
 use Rattle.answers.specs.declared.Answer.{Answer}
 use Rattle.answers.specs.declared.Answer.TheVariants.{Accepted, DoesNotFit, OutOfRange}
@@ -14,6 +14,10 @@ use Rattle.save.specs.Save.{save_bytes}
 -- "read and write try 8 then 9": what they answer for k bytes from place on, on an image of n bytes
 unfoldable pub admission : ℕ → Mapping → ℕ → ℕ → Answer
 admission n m place k = pick (fits n m) (pick (in_save (len_of m) place k) Accepted OutOfRange) DoesNotFit
+
+-- that answer as a result
+abbrev pub admitted : Answer → Result ⊤ Answer
+admitted a = pick (eqb (number_of a) 0) (Ok tt) (Err a)
 
 -- done where the answer is 0, and else left as it was
 abbrev pub if_accepted {ℓ} : {X : Type ℓ} → Answer → X → X → X

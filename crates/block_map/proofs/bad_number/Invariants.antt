@@ -1,16 +1,11 @@
 -- The flags are those of the first i blocks, and what the search finds from i on is what it finds.
-use Rattle.std.proofs.Common.{◌≡◌, ◌-◌, ◌≤◌, not}
+use Rattle.std.proofs.Common.{◌≡◌, not}
 use Rattle.lists.specs.Words.{tabulate}
 use Rattle.chip.specs.Figures.{records}
-use Rattle.answers.specs.Search.{first_of, first_from}
+use Rattle.answers.proofs.Searches.{Sought}
 use Rattle.mapping.specs.Fits.{appeared, placed}
 use Rattle.block_map.proofs.bad_number.Given as goal
 
 abbrev pub invariant-loop-i : goal.invariant-loop-i
 invariant-loop-i l =
-    (l.i ≤ l.v)
-    × (l.seen ≡ tabulate (appeared l.m l.i) records)
-    × (first_of (λ u. not (placed l.p l.m u)) l.v ≡ first_from (λ u. not (placed l.p l.m u)) l.i (l.v - l.i))
-
-abbrev pub decreases-loop-i : goal.decreases-loop-i
-decreases-loop-i l = l.v - l.i
+    (l.seen ≡ tabulate (appeared l.m l.i) records) × Sought (λ u. not (placed l.p l.m u)) l.v l.i

@@ -3,14 +3,12 @@ use Rattle.std.proofs.Common.{◌≡◌, ◌-◌, ◌+◌, suc, refl, arith}
 use Rattle.crc16.specs.Crc.{byte_step}
 use Rattle.crc16.proofs.byte_step.Goals as goal
 
-pub loop-k-init : goal.loop-k-init
+pub loop-init : goal.loop-init
 unfolding byte_step
-loop-k-init c = (omega arith, refl)
+loop-init c = rw c.from.ensures refl
 
-pub loop-k-preserved : goal.loop-k-preserved
-loop-k-preserved c = (
-  omega arith,
-  let l = c.loop-k in
-      let e : 8 - l.k ≡ suc (8 - (l.k + 1)) = omega arith in
-      rw c.bit_step-x.ensures (rw e at l.invariant.1),
-)
+pub loop-preserved : goal.loop-preserved
+loop-preserved c =
+    let l = c.loop in
+    let e : 8 - l.counter ≡ suc (8 - (l.counter + 1)) = omega arith in
+    rw c.bit_step-x.ensures (rw e at l.invariant)

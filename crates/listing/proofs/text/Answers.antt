@@ -1,6 +1,6 @@
--- The first lines, and behind them nothing or the list, by the answer's number.
-use Rattle.std.proofs.Common.{arith}
-use borrow.Author.Tests.{eq-eqb}
+-- The first lines, and behind them the list of an accepted image; a refusal's text is found without an answer.
+use Rattle.std.proofs.Common.{◌≡◌, rules}
+use Rattle.answers.specs.declared.Answer.TheVariants.{Accepted}
 use Rattle.listing.specs.Lines.{text_of}
 use Rattle.listing.proofs.Growing.{written_then}
 use Rattle.listing.proofs.text.Goals as goal
@@ -8,5 +8,6 @@ use Rattle.listing.proofs.text.Goals as goal
 pub returns : goal.returns
 unfolding text_of
 returns c =
-    rw (← c.report-o.ensures, ← c.number.ensures, eq-eqb c.number.result 0 (omega arith))
-    (written_then c.put_first-first.ensures.written c.put_list.ensures)
+    let e : c.report-o.result.answer ≡ Accepted = search rules in
+    let first = rw e at c.first_lines.ensures.grown.written in
+    rw (← c.report-o.ensures, e) (search (rules, written_then first c.list.ensures.grown.written))

@@ -1,21 +1,20 @@
 -- What is known of a mapping that fits, for those who may not look into the shut definitions: by the chip of its length it
 -- is `fits_as`, and without one it does not fit, as the blank mapping never does. Assumes nothing.
-use Rattle.std.specs.Prelude.{◌≡◌, Bool, true, false, ◌&&◌, ℕ, eqb}
+use Rattle.std.specs.Prelude.{◌≡◌, Bool, true, false, ◌&&◌, ℕ, eqb, Some, None}
 use Rattle.std.proofs.Math.Path.{refl}
 use Rattle.std.proofs.Common.{◌∙◌}
 use Rattle.chip.specs.declared.Chip.{Chip}
-use Rattle.chip.specs.declared.ChipOf.TheVariants.{Known, Unknown}
 use Rattle.chip.specs.Figures.{layout_of, from_len}
 use Rattle.mapping.specs.declared.Mapping.{Mapping}
 use Rattle.mapping.specs.Blocks.{blank}
 use Rattle.mapping.specs.Fits.{fits_as, fits_own, fits}
 
 module _ (m : Mapping) where
-  pub own_known : (k : Chip) → from_len m.len ≡ Known k → fits_own m ≡ fits_as (layout_of k) m
+  pub own_known : (k : Chip) → from_len m.len ≡ Some k → fits_own m ≡ fits_as (layout_of k) m
   unfolding fits_own
   own_known k e = rw e
 
-  pub own_unknown : from_len m.len ≡ Unknown → fits_own m ≡ false
+  pub own_unknown : from_len m.len ≡ None → fits_own m ≡ false
   unfolding fits_own
   own_unknown e = rw e
 

@@ -1,9 +1,6 @@
--- No more records agree than were replayed.
-use Rattle.std.proofs.Common.{◌≤◌, ◌-◌}
+-- Each record that was replayed agreed or differed.
+use Rattle.std.proofs.Common.{◌≡◌, ◌+◌}
 use Rattle.test_replay.proofs.replay_records.Given as goal
 
-abbrev pub invariant-loop-i : goal.invariant-loop-i
-invariant-loop-i l = (l.agree ≤ l.i) × (l.i ≤ l.n)
-
-abbrev pub decreases-loop-i : goal.decreases-loop-i
-decreases-loop-i l = l.n - l.i
+abbrev pub invariant-loop : goal.invariant-loop
+invariant-loop g l = l.agree + l.differ ≡ l.counter

@@ -1,13 +1,8 @@
 -- The first j sectors of the block are erased, and nothing else has changed.
-use Rattle.std.proofs.Common.{◌≡◌, ◌-◌, ◌*◌, ◌≤◌, length}
+use Rattle.std.proofs.Common.{◌≡◌, ◌*◌}
 use Rattle.lists.specs.Words.{splice, rep}
-use Rattle.chip.specs.Figures.{block_len, sector_len, sectors, erased}
+use Rattle.chip.specs.Figures.{block_len, sector_len, erased}
 use Rattle.save.proofs.writing.init_block.Given as goal
 
 abbrev pub invariant-loop-j : goal.invariant-loop-j
-invariant-loop-j l =
-    (l.j ≤ sectors) × (length l.image ≡ length l.fn.image)
-    × (l.image ≡ splice l.fn.image (l.number.0 * block_len) (rep (l.j * sector_len) erased))
-
-abbrev pub decreases-loop-j : goal.decreases-loop-j
-decreases-loop-j l = sectors - l.j
+invariant-loop-j l = l.image ≡ splice l.fn.image (l.number.0 * block_len) (rep (l.j * sector_len) erased)

@@ -1,6 +1,6 @@
 -- An accepted write ends before the image does, so that each turn finds its block; going on from the sector reached, the last
 -- turn comes to the end of the write.
-use Rattle.std.proofs.Common.{◌≡◌, ◌/◌, length, refl, ◌∙◌, arith}
+use Rattle.std.proofs.Common.{◌≡◌, ◌/◌, length, arith}
 use Rattle.chip.specs.Figures.{sectors}
 use Rattle.mapping.specs.Blocks.{with_block}
 use Rattle.save.specs.Visits.{state}
@@ -8,14 +8,8 @@ use Rattle.save.proofs.Parts.{going_store, going_number, going_parts}
 use Rattle.save.proofs.Visits.{can_short, going_none, going_all}
 use Rattle.save.proofs.writing.write_save.Goals as goal
 
-pub overflow_add-end : goal.overflow_add-end
-overflow_add-end c =
-    let a = c.args in
-    let h = can_short a.image.now a.m a.place (length a.bytes.now) c.requires in
-    omega arith
-
-pub overflow_add-end-2 : goal.overflow_add-end-2
-overflow_add-end-2 c =
+pub overflow_add-place : goal.overflow_add-place
+overflow_add-place c =
     let a = c.args in
     let h = can_short a.image.now a.m a.place (length a.bytes.now) c.requires in
     omega arith
@@ -23,7 +17,7 @@ overflow_add-end-2 c =
 pub loop-s-init : goal.loop-s-init
 loop-s-init c =
     let a = c.args in
-    (refl, going_none a.place a.bytes.now (state a.image.now a.m))
+    (omega arith, going_none a.place a.bytes.now (state a.image.now a.m))
 
 -- a sector that is visited lies in the save
 pub block_of-requires : goal.block_of-requires
@@ -42,27 +36,28 @@ pub visit_sectors-requires : goal.visit_sectors-requires
 visit_sectors-requires c =
     let l = c.loop-s in
     let a = c.args in
+    let end = l.invariant.0 in
     let e : c.at-v.result ≡ l.s / sectors = omega (arith, c.at-v.ensures.value, c.block_of.ensures) in
     rw e
-    (going_store a.place a.bytes.now (state a.image.now a.m) (state l.image l.t) l.s c.requires _ l.invariant.1 c.loop-s-test.true
-    (rw e at c.smaller-stop.ensures))
+    (going_store a.place a.bytes.now (state a.image.now a.m) (state l.image l.t) l.s c.requires _ l.invariant.1
+    (rw end at c.loop-s-test.true) (rw (e, end) at c.min-stop.ensures))
 
 pub loop-s-preserved : goal.loop-s-preserved
 unfolding with_block
 loop-s-preserved c =
     let visited = c.visit_sectors in
-    let stop = c.smaller-stop in
-    let more = c.loop-s-test.true in
     let l = c.loop-s in
     let a = c.args in
+    let end = l.invariant.0 in
+    let more = rw end at c.loop-s-test.true in
     let st = state a.image.now a.m in
     let st2 = state l.image l.t in
     let e : c.at-v.result ≡ l.s / sectors = omega (arith, c.at-v.ensures.value, c.block_of.ensures) in (
-      visited.auto.image ∙ l.invariant.0,
+      end,
       rw e
-          (going_parts a.place a.bytes.now st l.image l.t l.s stop.result visited.new.image visited.result l.invariant.1
+          (going_parts a.place a.bytes.now st l.image l.t l.s _ visited.new.image visited.result l.invariant.1
           (going_number a.place a.bytes.now st st2 l.s c.requires l.invariant.1 more)
-          (going_store a.place a.bytes.now st st2 l.s c.requires stop.result l.invariant.1 more (rw e at stop.ensures))
+          (going_store a.place a.bytes.now st st2 l.s c.requires _ l.invariant.1 more (rw (e, end) at c.min-stop.ensures))
           (rw e at visited.ensures.value) (rw e at visited.ensures.image_after)),
     )
 

@@ -1,9 +1,0 @@
--- One block after the other, up to their number.
-use Rattle.std.proofs.Common.{◌≤◌, ◌-◌}
-use Rattle.sample.proofs.write_blocks.Given as goal
-
-abbrev pub invariant-loop-i : goal.invariant-loop-i
-invariant-loop-i l = l.i ≤ l.n
-
-abbrev pub decreases-loop-i : goal.decreases-loop-i
-decreases-loop-i l = l.n - l.i
