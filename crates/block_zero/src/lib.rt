@@ -64,9 +64,8 @@ fn put_items(image: &mut [u8], kind: Chip, m: Mapping)
     ensures { image.new ≡ with_items (layout_of kind) m image.old }
 {
     let v = Chip::virtual_blocks(kind);
-    let tickets = m.tickets;
     for i in 0..v {
-        put_item(image, kind, Virtual(i as u8), m.blocks[i], &tickets);
+        put_item(image, kind, Virtual(i as u8), m.blocks[i], &m.tickets);
     }
 }
 
@@ -88,7 +87,7 @@ pub fn put_map(image: &mut [u8], kind: Chip, m: Mapping)
     put_items(image, kind, m);
     put_sum(image, kind);
     let start = Chip::journal_start(kind);
-    slices::fill(&mut image[start..Chip::BLOCK], Chip::ERASED);
+    image[start..Chip::BLOCK].fill(Chip::ERASED);
 }
 
 // The records of a formatted image: block i free with physical number i + 1.
@@ -109,7 +108,7 @@ pub fn format_zero(image: &mut [u8], kind: Chip)
     ensures { image.new ≡ formatted (layout_of kind) image.old }
 {
     let end = Chip::map_len(kind);
-    slices::fill(&mut image[..end], 0);
+    image[..end].fill(0);
     let blocks = fresh_blocks(kind);
     let m = Mapping::new(
         Chip::image_len(kind),

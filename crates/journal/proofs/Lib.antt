@@ -1,3 +1,4 @@
+pub mod Counts
 pub mod Copies
 pub mod Chunks
 pub mod Slots

@@ -2,10 +2,10 @@
 // crate: its callers lend block zero, as an array of its bytes, and a step gives the mapping to go on with or its refusal.
 #![tactic(auto)]
 
-ghost use Rattle.std.specs.Prelude.{◌≡◌, take, drop, IfErr};
+ghost use Rattle.std.specs.Prelude.{◌≡◌, take, drop};
 ghost use Rattle.lists.specs.Words.{tabulate, rep};
 ghost use Rattle.chip.specs.Figures.{layout_of, slot_count, sectors};
-ghost use Rattle.mapping.specs.Outcomes.{outcome_of, IsRefusal};
+ghost use Rattle.mapping.specs.Outcomes.{ComesTo};
 ghost use Rattle.mapping.specs.Blocks.{with_tickets};
 ghost use Rattle.journal.specs.Entries.{slot_at, entry_head, twins, entry_of, count_before, allowed};
 ghost use Rattle.journal.specs.Replay.{journal_of};
@@ -106,8 +106,7 @@ fn slots_of(zero: &[u8; Chip::BLOCK], kind: Chip) -> &[[u8; Chip::SLOT]]
 // Steps 4 and 5: the entries of the journal, applied to m slot by slot. Records are stored in place, w's before v's.
 #[tactic(auto, using(crate::proofs::Turns::turns), unfolding(crate::specs::Replay::journal_of))]
 fn replay(m: Mapping, kind: Chip, zero: &[u8; Chip::BLOCK]) -> Result<Mapping, Answer>
-    ensures value { outcome_of result ≡ journal_of (layout_of kind) m zero.now }
-    ensures refusal { IfErr result IsRefusal }
+    ensures { ComesTo result (journal_of (layout_of kind) m zero.now) }
 {
     let mut n = m;
     let slots = slots_of(zero, kind);
@@ -144,8 +143,7 @@ fn replay(m: Mapping, kind: Chip, zero: &[u8; Chip::BLOCK]) -> Result<Mapping, A
 // Step 6: the reserved block is free.
 #[tactic(auto, unfolding(crate::specs::Steps::step6))]
 fn reserved_step(m: Mapping, kind: Chip) -> Result<Mapping, Answer>
-    ensures value { outcome_of result ≡ step6 (layout_of kind) m }
-    ensures refusal { IfErr result IsRefusal }
+    ensures { ComesTo result (step6 (layout_of kind) m) }
 {
     if !m.reserved_free(kind) {
         return Err(Answer::ReservedInUse(Chip::virtual_blocks(kind) - 1));
@@ -155,8 +153,7 @@ fn reserved_step(m: Mapping, kind: Chip) -> Result<Mapping, Answer>
 
 // Steps 4 to 6.
 fn after_map(m: Mapping, kind: Chip, zero: &[u8; Chip::BLOCK]) -> Result<Mapping, Answer>
-    ensures value { outcome_of result ≡ steps4to6 (layout_of kind) zero.now m }
-    ensures refusal { IfErr result IsRefusal }
+    ensures { ComesTo result (steps4to6 (layout_of kind) zero.now m) }
 {
     let n = replay(m, kind, zero)?;
     reserved_step(n, kind)
@@ -165,8 +162,7 @@ fn after_map(m: Mapping, kind: Chip, zero: &[u8; Chip::BLOCK]) -> Result<Mapping
 // Steps 2 to 6 on block zero.
 #[tactic(auto, unfolding(crate::specs::Steps::steps2to6))]
 pub fn open_zero(zero: &[u8; Chip::BLOCK], kind: Chip) -> Result<Mapping, Answer>
-    ensures value { outcome_of result ≡ steps2to6 (layout_of kind) zero.now }
-    ensures refusal { IfErr result IsRefusal }
+    ensures { ComesTo result (steps2to6 (layout_of kind) zero.now) }
 {
     if !block_map::sum_holds(zero, kind) {
         return Err(Answer::WrongMapSum);
@@ -181,8 +177,7 @@ pub fn open_zero(zero: &[u8; Chip::BLOCK], kind: Chip) -> Result<Mapping, Answer
 // Steps 1 to 6 for an image of this length that begins with block zero.
 #[tactic(auto, unfolding(crate::specs::Steps::steps1to6))]
 pub fn open_map(zero: &[u8; Chip::BLOCK], len: usize) -> Result<Mapping, Answer>
-    ensures value { outcome_of result ≡ steps1to6 zero.now len }
-    ensures refusal { IfErr result IsRefusal }
+    ensures { ComesTo result (steps1to6 zero.now len) }
 {
     let kind = Chip::from_len(len).ok_or(Answer::WrongLength)?;
     open_zero(zero, kind)

@@ -1,17 +1,19 @@
 -- How a text grows in a buffer, and in the writer that holds it: nothing put in, a word put in, one piece behind another, and a
 -- number as the kit spells it. Assumes nothing.
+use Rattle.lists.proofs.Windows.{length-window}
+use lib.Seq.{take_all}
 use mathlib.Core.Path.{◌≡◌, refl, sym, ap, ◌∙◌, subst}
-use mathlib.Core.Bool.{false}
-use mathlib.Core.List.{List, [], ◌++◌}
+use mathlib.Core.Bool.{false, Bool, true}
+use mathlib.Core.List.{List, [], ◌++◌, ◌∷◌, append-nil}
 use Prim.Native.Nat.{ℕ, zero, suc, ◌+◌, ◌-◌, ◌/◌, ◌%◌, ◌^◌, ◌≤◌, ◌<◌}
 use native.Mathlib.Nat.{pow-le-pow_right}
 use native.Mathlib.Omega.{arith}
-use borrow.Rule.Slice.PartMut.{put_mid}
+use borrow.Rule.Slice.PartMut.{put_mid, mid_of}
 use borrow.Author.Tests.{lt-ltb, le-ltb}
 use lib.Dec.{ltb}
-use lib.ListN.{length, take, length-append}
-use Rattle.io.specs.Digits.{last_digits, IsDigitCount}
-use Rattle.lists.specs.Words.{splice}
+use lib.ListN.{length, take, length-append, drop, drop_of_length-le}
+use Rattle.io.specs.Digits.{last_digits, IsDigitCount, hex_digit_ascii}
+use Rattle.lists.specs.Words.{splice, pick}
 use Rattle.lists.proofs.Orders.{split}
 use Rattle.lists.proofs.Splice.{length-splice, splice-nil, splice-splice, part_back}
 use Rattle.listing.specs.declared.Writer.{Writer}
@@ -20,6 +22,26 @@ use Rattle.listing.specs.Lines.{decimal_in, decimal, most_digits, Written, Grew}
 -- nothing was put in
 pub written_nothing : (old : List ℕ) (at : ℕ) → at ≤ length old → Written old at [] old at
 written_nothing old at h = record { fits = omega arith; stored = sym (splice-nil old at h); next = omega arith }
+
+-- a word was put in, as a copy byte by byte leaves it in a part that was lent
+pub written_word
+    : (old word ys : List ℕ) (at : ℕ)
+    → at + length word ≤ length old
+    → ys ≡ take (length word) word ++ drop (length word) (mid_of at (at + length word - at) old)
+    → Written old at word (put_mid at (at + length word - at) old ys) (at + length word)
+written_word old word ys at h q =
+    let z : at + length word - at ≡ length word = omega arith in
+    let l : length (mid_of at (at + length word - at) old) ≡ length word = rw z (length-window at (length word) old h) in
+    let d : ys ≡ word
+    = q
+    ∙ ap (λ (r : List ℕ). r ++ drop (length word) (mid_of at (at + length word - at) old)) (take_all (length word) word (omega arith))
+    ∙ ap (λ (r : List ℕ). word ++ r) (drop_of_length-le (mid_of at (at + length word - at) old) {i = length word} (omega (arith, l)))
+    ∙ append-nil word in
+    record {
+      fits = h;
+      stored = part_back old at (length word) ys (ap length d) ∙ ap (splice old at) d;
+      next = refl;
+    }
 
 -- a word was put in, as std's `copy_from_slice` stores it in a part that was lent
 pub written_copied
@@ -105,6 +127,18 @@ number_text d k n h f t =
     let b : 10 ^ (k - 1) ≤ n = f.2 (omega arith) in
     absurd (omega arith)) in
     rw z (t ∙ spelled most_digits k n small f)
+
+-- a number has no more digits than there are steps
+pub decimal_short : (k n : ℕ) → length (decimal_in k n) ≤ k
+unfolding decimal_in
+decimal_short zero n = omega arith
+decimal_short (suc k) n = by_size (decimal_short k (n / 10)) (ltb n 10)
+  where
+    by_size
+        : length (decimal_in k (n / 10)) ≤ k
+        → (t : Bool) → length (pick t (hex_digit_ascii n ∷ []) (decimal_in k (n / 10) ++ (hex_digit_ascii (n % 10) ∷ []))) ≤ suc k
+    by_size h true = omega arith
+    by_size h false = simp length-append (omega arith)
 
 -- another way to name the text
 pub grew_as : {old new : Writer} {text text2 : List ℕ} → text ≡ text2 → Grew old text new → Grew old text2 new

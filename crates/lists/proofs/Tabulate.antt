@@ -80,6 +80,20 @@ module _ {ℓ} {A : Type ℓ} where
   abbrev pub front : ℕ → (ℕ → A) → (ℕ → A) → ℕ → A
   front n f g i = pick (ltb i n) (f i) (g i)
 
-  -- the next one as it still stands
+  -- a list that a loop replaces from the front: none yet, the next as it still stands, and one more
+  pub front_none : (f : ℕ → A) (n : ℕ) (l : List A) (d : A) → length l ≡ n → l ≡ tabulate (front 0 f (λ i. get_or l i d)) n
+  front_none f n l d e =
+      sym (tabulate_list (front 0 f (λ i. get_or l i d)) n l d e (λ i h. rw (le-ltb i 0 (omega arith))))
+
   pub front_next : (f g : ℕ → A) (n : ℕ) (d : A) (i : ℕ) → i < n → get_or (tabulate (front i f g) n) i d ≡ g i
   front_next f g n d i h = get_or-tabulate (front i f g) n i d h ∙ rw (le-ltb i i (omega arith))
+
+  pub front_more
+      : (f g : ℕ → A) (n : ℕ) (a : A) (i : ℕ)
+      → i < n → a ≡ f i → set (tabulate (front i f g) n) i a ≡ tabulate (front (i + 1) f g) n
+  front_more f g n a i h e =
+      tabulate-set (front i f g) (front (i + 1) f g) n i a h (rw (lt-ltb i (i + 1) (omega arith)) (sym e))
+      (λ j k ne.
+      split i j
+      (λ p. rw (le-ltb j i p, le-ltb j (i + 1) (omega (arith, ne))))
+      (λ p. rw (lt-ltb j i p, lt-ltb j (i + 1) (omega arith))))

@@ -1,5 +1,5 @@
 -- How outcomes follow from one another: "the earliest open step decides" (01, "Numbers handed back"). Assumes nothing.
-use Rattle.std.specs.Prelude.{◌≡◌, ℕ, false, eqb, Option, Some, None, Result, Ok, Err}
+use Rattle.std.specs.Prelude.{◌≡◌, ℕ, false, eqb, Option, Some, None, Result, Ok, Err, IfErr}
 use Rattle.lists.specs.Words.{pick}
 use Rattle.answers.specs.declared.Answer.{Answer}
 use Rattle.answers.specs.declared.Answer.TheVariants.{Accepted}
@@ -24,6 +24,10 @@ outcome_of (Err a) = refused a
 -- an answer that is no 0
 abbrev pub IsRefusal : Answer → Type 0
 IsRefusal a = eqb (number_of a) 0 ≡ false
+
+-- a step came to this outcome
+abbrev pub ComesTo : Result Mapping Answer → Outcome → Type 0
+ComesTo r o = (outcome_of r ≡ o) × IfErr r IsRefusal
 
 -- an accepted outcome goes on to the next step, a refusal stays
 abbrev pub and_then : Outcome → (Mapping → Outcome) → Outcome

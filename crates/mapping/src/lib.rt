@@ -4,8 +4,8 @@
 // `blank`, `new` and `with_tickets` make one.
 #![tactic(auto)]
 
-ghost use Rattle.std.specs.Prelude.{◌≡◌, ◌≤◌, ◌<◌, not};
-ghost use Rattle.lists.specs.Words.{pick, tabulate, how_many};
+ghost use Rattle.std.specs.Prelude.{◌≡◌, ◌<◌, not};
+ghost use Rattle.lists.specs.Words.{tabulate, how_many};
 ghost use Rattle.chip.specs.Figures.{layout_of, virtuals, records};
 ghost use Rattle.mapping.specs.Blocks.{is_free, free_at, blank, mapping_of, with_tickets, len_of, in_use_of};
 ghost use Rattle.mapping.specs.Fits.{appeared, each_once, reserved_free, fits_own, fits};

@@ -1,10 +1,10 @@
 -- Reading by blocks: bytes of one block are the save's, byte by byte, and a buffer whose first bytes are the save's gets the
 -- next ones. Assumes nothing.
+use native.Mathlib.Nat.{add-sub_cancel_left}
 use mathlib.Core.Path.{◌≡◌, sym, ap, ◌∙◌}
 use mathlib.Core.Bool.{true, false}
 use mathlib.Core.List.{List, ◌++◌}
-use Prim.Native.Nat.{ℕ, ◌+◌, ◌-◌, ◌*◌, ◌/◌, ◌%◌, ◌<◌, ◌≤◌}
-use native.Mathlib.Nat.{add-sub_cancel_left}
+use Prim.Native.Nat.{ℕ, ◌+◌, ◌-◌, ◌*◌, ◌/◌, ◌%◌, ◌<◌, ◌≤◌, min, max}
 use native.Mathlib.Omega.{arith}
 use borrow.Rule.Slice.PartMut.{put_mid, mid_of, mid_len}
 use lib.ListN.{length, take, drop, get_or, length-replicate, get_or-replicate}
@@ -19,7 +19,11 @@ use Rattle.mapping.specs.declared.Block.{Block}
 use Rattle.mapping.specs.declared.Mapping.{Mapping}
 use Rattle.mapping.specs.Blocks.{is_free, block_at, number_at, free_at, len_of}
 use Rattle.save.specs.Save.{byte_at, save_bytes}
-use Rattle.save.specs.Readable.{block_part, Readable}
+use Rattle.save.specs.Readable.{block_part, Readable, PartIn}
+
+-- how many of n bytes from `place` on lie before block v
+abbrev pub read_before : ℕ → ℕ → ℕ → ℕ
+read_before place n v = min (place + n) (max place (v * block_len)) - place
 
 -- bytes of s that were copied over all of l
 pub copied_whole : (l s : List ℕ) (f : ℕ) → f + length l ≤ length s → splice l 0 (slice f (f + length l) s) ≡ take (length l) (drop f s)
@@ -101,23 +105,46 @@ module _ (image : List ℕ) (m : Mapping) where
       (ap (λ (x : List ℕ). take d (drop place s) ++ x) (e ∙ ap (take k) (sym (drop-drop d place s)))
       ∙ sym (take-add d k (drop place s)))
 
-  module _ (place d k : ℕ) (l b : List ℕ) (r : Readable image m place (length l)) (h : d < length l) (q : d + k ≤ length l) where
-    -- a turn of the loop: the buffer is b by now, and its next k bytes are to come from the block that place + d lies in
-    module _ (c : (place + d) % block_len + k ≤ block_len) (e : length b ≡ length l) where
-      lent : length (mid_of d (d + k - d) b) ≡ k
-      lent = mid_len d (d + k) b (omega arith) ∙ add-sub_cancel_left d k
+  module _ (place v : ℕ) (l b : List ℕ) (r : Readable image m place (length l)) (lo : place < v * block_len + block_len)
+      (hi : v * block_len < place + length l) (from to : ℕ) (f : from ≡ max place (v * block_len))
+      (t : to ≡ min (place + length l) (v * block_len + block_len)) (e : length b ≡ length l) where
+    -- a turn of the loop: the buffer is b by now, and its bytes from `from` to `to` of the save are to come from the block v
+    lent : length (mid_of (from - place) (to - place - (from - place)) b) ≡ to - from
+    lent = mid_len (from - place) (to - place) b (omega arith) ∙ omega arith
 
-      -- where they came from it, they are the save's next
-      pub read_turn
-          : (ys : List ℕ)
-          → b ≡ splice l 0 (take d (drop place (save_bytes image m)))
-          → ys ≡ block_part image (block_at m ((place + d) / block_len)) ((place + d) % block_len) (length (mid_of d (d + k - d) b))
-          → put_mid d (d + k - d) b ys ≡ splice l 0 (take (d + k) (drop place (save_bytes image m)))
-      read_turn ys f g =
-          let n : place + length l ≤ len_of m = r.lies_in_save in
-          let t : ys ≡ take k (drop (place + d) (save_bytes image m)) =
-          g ∙ rw lent (block_part_lem (place + d) k c (r.lies ((place + d) / block_len) (omega arith)) (omega arith)) in
-          rw f (read_more place d k l ys q n t)
+    begun : read_before place (length l) v ≡ from - place
+    begun = omega arith
+
+    ended : read_before place (length l) (v + 1) ≡ (from - place) + (to - from)
+    ended = omega arith
+
+    -- where they came from it, they are the save's next
+    pub read_turn
+        : (ys : List ℕ)
+        → b ≡ splice l 0 (take (read_before place (length l) v) (drop place (save_bytes image m)))
+        → ys ≡ block_part image (block_at m v) (from - v * block_len) (length (mid_of (from - place) (to - place - (from - place)) b))
+        → put_mid (from - place) (to - place - (from - place)) b ys
+        ≡ splice l 0 (take (read_before place (length l) (v + 1)) (drop place (save_bytes image m)))
+    read_turn ys h g =
+        let n : place + length l ≤ len_of m = r.lies_in_save in
+        let w : to - place - (from - place) ≡ (from - place) + (to - from) - (from - place) = omega arith in
+        let x : from / block_len ≡ v = omega arith in
+        let y : from % block_len ≡ from - v * block_len = omega arith in
+        let z : place + (from - place) ≡ from = omega arith in
+        let p : block_part image (block_at m (from / block_len)) (from % block_len) (to - from) ≡ take (to - from) (drop from (save_bytes image m)) =
+        block_part_lem from (to - from) (omega arith) (rw x (r.lies v (omega arith))) (omega arith) in
+        let q : ys ≡ take (to - from) (drop (place + (from - place)) (save_bytes image m)) = rw z (g ∙ rw lent (rw (x, y) at p)) in
+        rw (h, begun, ended, w) (read_more place (from - place) (to - from) l ys (omega arith) n q)
+
+  -- the next k bytes of a buffer b, lent for the block that place + d lies in
+  module _ (place d k : ℕ) (l b : List ℕ) (r : Readable image m place (length l)) (h : d < length l) (q : d + k ≤ length l)
+      (c : (place + d) % block_len + k ≤ block_len) (e : length b ≡ length l) where
+    pub part_in : PartIn image (block_at m ((place + d) / block_len)) ((place + d) % block_len) (length (mid_of d (d + k - d) b))
+    part_in =
+        record {
+          in_block = rw (mid_len d (d + k) b (omega arith) ∙ add-sub_cancel_left d k) c;
+          in_image = r.lies ((place + d) / block_len) (omega (arith, r.lies_in_save));
+        }
 
   -- all turns done
   pub read_all

@@ -111,6 +111,21 @@ numbered [] v h = absurd (omega arith)
 numbered (b ∷ bs) zero h = omega arith
 numbered (b ∷ bs) (suc v) h = let r : v < length bs = numbered bs v h in omega arith
 
+-- filling a block leaves room for what is stored in it
+pub opened_can
+    : (b : Block) (image : List ℕ) (place k s stop : ℕ)
+    → CanStore image b.physical.0 place k s stop → CanStore (opened_image b image) b.physical.0 place k s stop
+opened_can b image place k s stop can =
+    let long : length (opened_image b image) ≡ length image = length_opened b image can.within in
+    record {
+      within = omega (arith, long, can.within);
+      from = can.from;
+      some = can.some;
+      to = can.to;
+      one = can.one;
+      short = omega (arith, long, can.short);
+    }
+
 module _ (place : ℕ) (d : List ℕ) (st : State) (image : List ℕ) (m : Mapping) (s : ℕ) where
   abbrev v : ℕ
   v = s / sectors
@@ -185,19 +200,9 @@ module _ (place : ℕ) (d : List ℕ) (st : State) (image : List ℕ) (m : Mappi
       → Going place d st (state after (with_block m v c)) stop
   going_parts stop after c g number can p q =
       let e : stop ≡ s + suc (stop - s - 1) = omega (arith, can.some) in
-      let long : length opened ≡ length image = length_opened (block_at m v) image can.within in
-      let can2 : CanStore opened (number_at m v) place (length d) s stop =
-      record {
-        within = omega (arith, long, can.within);
-        from = can.from;
-        some = can.some;
-        to = can.to;
-        one = can.one;
-        short = omega (arith, long, can.short);
-      } in
       rw (p, q)
       (subst⁻¹ (λ (x : ℕ). Going place d st (state (stored_parts (number_at m v) place d s x opened) (with_block m v b)) x) e
-      (visits_more (stop - s - 1) g (numbered m.blocks v number) (rw e at can2)))
+      (visits_more (stop - s - 1) g (numbered m.blocks v number) (rw e at (opened_can (block_at m v) image place (length d) s stop can))))
 
 module _ (place : ℕ) (d : List ℕ) (st st2 : State) (s : ℕ) (can : CanWrite st.image st.mapping place (length d)) where
   -- a turn can be made: its sectors are those up to the end of the block, or of the write

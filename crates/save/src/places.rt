@@ -1,4 +1,4 @@
-// Where a byte of the save lies: what reading and writing share.
+// In which block a byte of the save lies.
 ghost use Rattle.std.specs.Prelude.{◌≡◌, ◌*◌, ◌/◌, ◌<◌};
 ghost use Rattle.chip.specs.Figures.{block_len, records};
 

@@ -3,7 +3,6 @@ ghost use Rattle.std.specs.Prelude.{◌≡◌, length, take, drop};
 ghost use Rattle.save.specs.Save.{save_bytes};
 ghost use Rattle.save.specs.Readable.{block_part, PartIn, Readable};
 
-use crate::places::block_of;
 use chip::Chip;
 use mapping::{Block, Mapping};
 
@@ -13,7 +12,7 @@ fn read_block(image: &[u8], b: Block, off: usize, part: &mut [u8])
     ensures { part.new ≡ block_part image.now b off (length part.old) }
 {
     if b.condition.is_free() {
-        slices::fill(part, Chip::ERASED);
+        part.fill(Chip::ERASED);
         return;
     }
     let from = b.physical.0 as usize * Chip::BLOCK + off;
@@ -27,15 +26,12 @@ pub fn read_save(image: &[u8], m: Mapping, place: usize, buf: &mut [u8])
     ensures { buf.new ≡ take (length buf.old) (drop place (save_bytes image.now m)) }
 {
     let n = buf.len();
-    let mut done: usize = 0;
-    // a `while`: the first and the last part of a range are shorter than a block, which no iterator of std cuts
-    while done < n {
-        let p = place + done;
-        let v = block_of(p).at();
-        let off = p % Chip::BLOCK;
-        let k = (Chip::BLOCK - off).min(n - done);
-        let end = done + k;
-        read_block(image, m.blocks[v], off, &mut buf[done..end]);
-        done = end;
+    // the blocks that the range touches, and of each the part from `from` to `to` of the save that lies in the range
+    for v in place / Chip::BLOCK..(place + n).div_ceil(Chip::BLOCK) {
+        let b = m.blocks[v];
+        let start = v * Chip::BLOCK;
+        let from = place.max(start);
+        let to = (place + n).min(start + Chip::BLOCK);
+        read_block(image, b, from - start, &mut buf[from - place..to - place]);
     }
 }

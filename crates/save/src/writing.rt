@@ -1,8 +1,8 @@
 // Writing into a save, at once, in the image: the sectors of a block together, block by block.
 ghost use Rattle.std.specs.Prelude.{◌≡◌, ◌+◌, ◌*◌, ◌≤◌, length};
 ghost use Rattle.lists.specs.Words.{splice, rep};
-ghost use Rattle.chip.specs.Figures.{block_len, erased};
-ghost use Rattle.save.specs.Visits.{state, first_count, visited_block, opened_image, written, CanWrite};
+ghost use Rattle.chip.specs.Figures.{block_len, erased, records};
+ghost use Rattle.save.specs.Visits.{state, first_sector, end_sector, first_count, visited_block, opened_image, written, CanWrite};
 ghost use Rattle.save.specs.Parts.{stored_parts, CanStore};
 
 use crate::places::block_of;
@@ -49,42 +49,41 @@ fn visit_block(image: &mut [u8], b: Block) -> Block
     visited
 }
 
-// Stores the parts of the bytes that fall into sectors s up to `stop` of the save, which lie in this physical block.
-#[tactic(auto, unfolding(crate::specs::Parts::stored_parts, crate::specs::Parts::parts_end, crate::specs::Visits::part_from))]
-fn store_parts(
-    image: &mut [u8],
-    number: Physical,
+// The bytes of a write, and where in the save they are to stand.
+#[derive(Clone, Copy)]
+struct Written<'a> {
     place: usize,
-    bytes: &[u8],
-    s: usize,
-    stop: usize,
-)
-    requires { CanStore image.old number.0 place (length bytes.now) s stop }
-    ensures { image.new ≡ stored_parts number.0 place bytes.now s stop image.old }
-{
-    let start = s * Chip::SECTOR;
-    let from = place.max(start);
-    let end = (place + bytes.len()).min(stop * Chip::SECTOR);
-    let at = tickets::sector_place(number, s % Chip::SECTORS) + (from - start);
-    slices::copy(image, at, bytes, from - place, end - from);
+    bytes: &'a [u8],
 }
 
-// Visits sectors s up to `stop` of the save, which lie in block b: hands the block back as it is then.
-fn visit_sectors(
-    image: &mut [u8],
-    b: Block,
-    place: usize,
-    bytes: &[u8],
-    s: usize,
-    stop: usize,
-) -> Block
-    requires { CanStore image.old b.physical.0 place (length bytes.now) s stop }
-    ensures value { result ≡ visited_block b }
-    ensures image_after { image.new ≡ stored_parts b.physical.0 place bytes.now s stop (opened_image b image.old) }
-{
-    let visited = visit_block(image, b);
-    store_parts(image, b.physical, place, bytes, s, stop);
-    visited
+impl Written<'_> {
+    // The first sector that they fall into.
+    fn first_sector(self) -> usize
+        ensures { result ≡ first_sector self.entry.place }
+    {
+        self.place / Chip::SECTOR
+    }
+
+    // The sector after the last of them.
+    fn end_sector(self) -> usize
+        requires { self.place + length self.bytes.now ≤ records * block_len }
+        ensures { result ≡ end_sector self.entry.place (length self.entry.bytes.now) }
+    {
+        (self.place + self.bytes.len()).div_ceil(Chip::SECTOR)
+    }
+
+    // Stores the parts of them that fall into sectors s up to `stop` of the save, which lie in this physical block.
+    #[tactic(auto, unfolding(crate::specs::Parts::stored_parts, crate::specs::Parts::parts_end, crate::specs::Visits::part_from))]
+    fn store(self, image: &mut [u8], number: Physical, s: usize, stop: usize)
+        requires { CanStore image.old number.0 self.place (length self.bytes.now) s stop }
+        ensures { image.new ≡ stored_parts number.0 self.entry.place self.entry.bytes.now s stop image.old }
+    {
+        let start = s * Chip::SECTOR;
+        let from = self.place.max(start);
+        let end = (self.place + self.bytes.len()).min(stop * Chip::SECTOR);
+        let at = tickets::sector_place(number, s % Chip::SECTORS) + (from - start);
+        slices::copy(image, at, self.bytes, from - self.place, end - from);
+    }
 }
 
 // Visits all sectors of a write that was accepted, those of a block at once, and hands the mapping back as it is then.
@@ -92,14 +91,17 @@ pub fn write_save(image: &mut [u8], m: Mapping, place: usize, bytes: &[u8]) -> M
     requires { CanWrite image.old m place (length bytes.now) }
     ensures { state image.new result ≡ written place bytes.now (state image.old m) }
 {
+    let write = Written { place, bytes };
     let mut t = m;
-    let mut s = place / Chip::SECTOR;
-    let end = (place + bytes.len()).div_ceil(Chip::SECTOR);
-    // a `while`: the first and the last part of a range are shorter than a block, which no iterator of std cuts
+    let mut s = write.first_sector();
+    let end = write.end_sector();
+    // A `while`, so that a write of nothing visits no block unless it begins within a sector.
     while s < end {
         let v = block_of(s * Chip::SECTOR).at();
         let stop = ((v + 1) * Chip::SECTORS).min(end);
-        t.blocks[v] = visit_sectors(image, t.blocks[v], place, bytes, s, stop);
+        let b = t.blocks[v];
+        t.blocks[v] = visit_block(image, b);
+        write.store(image, b.physical, s, stop);
         s = stop;
     }
     t

@@ -1,17 +1,9 @@
-// Bytes moved about in lent slices: a slice that is filled, and a part of one copied into another. An inner crate: `copy` asks
-// that both parts are there.
+// A part of one lent slice copied into another, as a splice. An inner crate: `copy` asks that both parts are there.
 #![tactic(auto)]
 
 ghost use Rattle.std.specs.Prelude.{◌≡◌, ◌+◌, ◌≤◌, length};
 ghost use Rattle.std.proofs.Math.Seq.{slice};
-ghost use Rattle.lists.specs.Words.{splice, rep};
-
-// Every byte becomes b.
-pub fn fill(part: &mut [u8], b: u8)
-    ensures { part.new ≡ rep (length part.old) b }
-{
-    part.fill(b);
-}
+ghost use Rattle.lists.specs.Words.{splice};
 
 // Stores n bytes of src, those from `from` on, in dst from `at` on.
 pub fn copy(dst: &mut [u8], at: usize, src: &[u8], from: usize, n: usize)

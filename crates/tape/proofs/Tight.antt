@@ -2,7 +2,7 @@
 -- inner crate that asks nothing of its caller, two outcomes at the same arguments that both meet its contract are one, in the
 -- result and in the bytes behind its `&mut` at the exit. A contract is what the checker reads of it, `Learnt`, with all its
 -- clauses; tests/tight compares the functions below with the code's. Assumes nothing.
-use mathlib.Core.Path.{◌≡◌, refl, sym, ap, ◌∙◌}
+use mathlib.Core.Path.{◌≡◌, sym, ap, ◌∙◌}
 use mathlib.Core.Bool.{Bool, true, false, true≢false}
 use mathlib.Core.List.{List}
 use Prim.Native.Nat.{ℕ}
@@ -42,7 +42,6 @@ use Rattle.mapping.proofs.Outcome.refused.Reads as outcome_refused_reads
 use Rattle.mapping.proofs.OutcomeFromResultMappingAnswer.from.Reads as outcome_from_reads
 use Rattle.block_map.proofs.item_at.Reads as item_at_reads
 use Rattle.block_map.proofs.bad_number.Reads as bad_number_reads
-use Rattle.slices.proofs.fill.Reads as fill_reads
 use Rattle.block_map.proofs.load_map.Reads as load_map_reads
 use Rattle.block_map.proofs.sum_holds.Reads as sum_holds_reads
 use Rattle.journal.proofs.open_zero.Reads as open_zero_reads
@@ -222,10 +221,6 @@ listing_limit_tight κs a r r2 s s2 p q = p ∙ sym q
 
 pub listing_counted_tight : Determines listing_counted_reads.Learnt
 listing_counted_tight κs a r r2 s s2 p q = p ∙ sym q
-
--- the bytes that are filled, the first parameter; there is no result
-pub fill_tight : DeterminesBoth fill_reads.Learnt (λ κs s. s.0.now)
-fill_tight κs a r r2 s s2 p q = (refl, p ∙ sym q)
 
 pub open_tight : Determines open_reads.Learnt
 open_tight κs a r r2 s s2 p q = p ∙ sym q

@@ -4,8 +4,8 @@
 // `stdout`, worked out from the paper.
 #![tactic(auto)]
 
+use answers::Answer;
 use mapping::Mapping;
-use std::io;
 
 // Room for the longest image: a byte more than the largest chip has.
 const ROOM: usize = 0x100001;
@@ -23,60 +23,62 @@ fn image_of(b: u8) -> [u8; ROOM] {
     [b; ROOM]
 }
 
+// Prints how a call ended, in a line that goes on.
+fn say(rt: &impl Print, call: &str, answer: Answer) {
+    let number = answer.number();
+    let place = answer.place();
+    let _ = print!(rt; "{call} {number} place {place}");
+}
+
 // Prints the sums of the image's two parts.
-fn show_sums(rt: &impl Print, image: &[u8]) -> io::Result<()> {
+fn show_sums(rt: &impl Print, image: &[u8]) {
     let Some((first, rest)) = image.split_at_checked(CUT) else {
-        return Ok(());
+        return;
     };
     let first = crc16::crc16_ninty(first);
     let rest = crc16::crc16_ninty(rest);
-    println!(rt; "sums {first:04x} {rest:04x}")
+    let _ = println!(rt; "sums {first:04x} {rest:04x}");
 }
 
 // Opens, and shows the answer and the mapping's len.
-fn show_open(rt: &impl Print, image: &[u8]) -> io::Result<Mapping> {
+fn show_open(rt: &impl Print, image: &[u8]) -> Mapping {
     let o = wear_leveling::open(image);
-    let number = o.answer.number();
-    let place = o.answer.place();
     let len = wear_leveling::len(o.mapping);
-    println!(rt; "open {number} place {place} len {len}")?;
-    Ok(o.mapping)
+    say(rt, "open", o.answer);
+    let _ = println!(rt; " len {len}");
+    o.mapping
 }
 
 // Reads one byte, and shows the answer and the buffer.
-fn show_read(rt: &impl Print, image: &[u8], m: Mapping, at: usize) -> io::Result<()> {
+fn show_read(rt: &impl Print, image: &[u8], m: Mapping, at: usize) {
     let mut buf = [BEFORE; 1];
     let o = wear_leveling::read(image, m, at, &mut buf);
-    let number = o.answer.number();
-    let place = o.answer.place();
     let [byte] = buf;
-    println!(rt; "read {number} place {place} byte {byte}")
+    say(rt, "read", o.answer);
+    let _ = println!(rt; " byte {byte}");
 }
 
 // Writes one byte, and shows the answer.
-fn show_write(rt: &impl Print, image: &mut [u8], m: Mapping, at: usize) -> io::Result<Mapping> {
+fn show_write(rt: &impl Print, image: &mut [u8], m: Mapping, at: usize) -> Mapping {
     let o = wear_leveling::write(image, m, at, &[WRITTEN; 1]);
-    let number = o.answer.number();
-    let place = o.answer.place();
-    println!(rt; "write {number} place {place}")?;
-    Ok(o.mapping)
+    say(rt, "write", o.answer);
+    let _ = println!(rt; "");
+    o.mapping
 }
 
 // Commits, and shows the answer.
-fn show_commit(rt: &impl Print, image: &mut [u8], m: Mapping) -> io::Result<()> {
+fn show_commit(rt: &impl Print, image: &mut [u8], m: Mapping) {
     let o = wear_leveling::commit(image, m);
-    let number = o.answer.number();
-    let place = o.answer.place();
-    println!(rt; "commit {number} place {place}")
+    say(rt, "commit", o.answer);
+    let _ = println!(rt; "");
 }
 
 // Formats, and shows the answer with the sums before and after.
-fn show_format(rt: &impl Print, image: &mut [u8]) -> io::Result<()> {
-    show_sums(rt, image)?;
+fn show_format(rt: &impl Print, image: &mut [u8]) {
+    show_sums(rt, image);
     let answer = wear_leveling::format(image);
-    let number = answer.number();
-    let place = answer.place();
-    println!(rt; "format {number} place {place}")?;
+    say(rt, "format", answer);
+    let _ = println!(rt; "");
     show_sums(rt, image)
 }
 
@@ -86,44 +88,42 @@ fn last_of(m: Mapping) -> usize {
 }
 
 // Opens, and shows the save's last byte.
-fn show_last(rt: &impl Print, image: &[u8]) -> io::Result<Mapping> {
-    let m = show_open(rt, image)?;
-    show_read(rt, image, m, last_of(m))?;
-    Ok(m)
+fn show_last(rt: &impl Print, image: &[u8]) -> Mapping {
+    let m = show_open(rt, image);
+    show_read(rt, image, m, last_of(m));
+    m
 }
 
 // Writes the save's last byte, reads it and commits.
-fn show_change(rt: &impl Print, image: &mut [u8], m: Mapping) -> io::Result<()> {
+fn show_change(rt: &impl Print, image: &mut [u8], m: Mapping) {
     let at = last_of(m);
-    let written = show_write(rt, image, m, at)?;
-    show_read(rt, image, written, at)?;
-    show_commit(rt, image, written)?;
+    let written = show_write(rt, image, m, at);
+    show_read(rt, image, written, at);
+    show_commit(rt, image, written);
     show_sums(rt, image)
 }
 
 // All calls on one image.
-fn show_calls(rt: &impl Print, image: &mut [u8]) -> io::Result<()> {
-    show_format(rt, image)?;
-    let m = show_last(rt, image)?;
-    show_change(rt, image, m)?;
-    show_last(rt, image)?;
-    Ok(())
+fn show_calls(rt: &impl Print, image: &mut [u8]) {
+    show_format(rt, image);
+    let m = show_last(rt, image);
+    show_change(rt, image, m);
+    show_last(rt, image);
 }
 
 // All calls on an image of this length, filled with b.
-fn show_image(rt: &impl Print, len: usize, b: u8) -> io::Result<()> {
+fn show_image(rt: &impl Print, len: usize, b: u8) {
     let mut room = image_of(b);
     let Some(image) = room.get_mut(..len) else {
-        return Ok(());
+        return;
     };
-    println!(rt; "length {len} of {b}")?;
+    let _ = println!(rt; "length {len} of {b}");
     show_calls(rt, image)
 }
 
-fn main(rt: HostRuntime) -> io::Result<()> {
+fn main(rt: HostRuntime) {
     for len in [0x20000, 0x80000, 0x100000, 0x1FFFF, 0x40000, 0x100001] {
-        show_image(&rt, len, 0)?;
-        show_image(&rt, len, 0xFF)?;
+        show_image(&rt, len, 0);
+        show_image(&rt, len, 0xFF);
     }
-    Ok(())
 }

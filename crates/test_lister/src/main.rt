@@ -4,8 +4,6 @@
 // `stdout`.
 #![tactic(auto)]
 
-ghost use Rattle.std.specs.Prelude.{◌<◌};
-
 use chip::Chip;
 use mapping::Condition;
 
@@ -15,83 +13,105 @@ const STDIN_FILENO: i32 = 0;
 // Standard output.
 const STDOUT_FILENO: i32 = 1;
 
-// Stores the lowest eight bits of a number, if there is such a place.
-fn set(zero: &mut [u8; Chip::BLOCK], at: usize, b: u32) {
-    if let Some(byte) = zero.get_mut(at) {
-        let [low, ..] = b.to_le_bytes();
-        *byte = low;
-    }
-}
-
-// Stores the sum of the map, low byte first.
-fn seal(zero: &mut [u8; Chip::BLOCK], kind: Chip) {
-    let end = Chip::map_len(kind);
-    let sum = crc16::crc16_ninty(&zero[..end]);
-    zero[end..end + 2].copy_from_slice(&sum.to_le_bytes());
-}
-
-// Stores block v's item: on small chips the number comes first, on large ones the count.
-fn put_item(
-    zero: &mut [u8; Chip::BLOCK],
+// Block zero of a chip, as the lines make it.
+#[derive(Clone, Copy)]
+struct Zero {
+    bytes: [u8; Chip::BLOCK],
     kind: Chip,
-    condition: Condition,
-    v: u32,
-    number: u32,
-    count: u32,
-) {
-    let used = if condition.is_free() {
-        0
-    } else {
-        u32::from(Chip::IN_USE)
-    };
-    let (head, next) = if Chip::is_large(kind) {
-        (count, number)
-    } else {
-        (number, count)
-    };
-    let at = Chip::HEADER + v as usize * Chip::item_len(kind);
-    set(zero, at, used | head);
-    set(zero, at + 1, next);
 }
 
-// Stores byte i of a slot.
-fn set_slot(zero: &mut [u8; Chip::BLOCK], kind: Chip, slot: u32, i: u32, b: u32) {
-    let at = Chip::journal_start(kind) + slot as usize * Chip::SLOT;
-    set(zero, at + i as usize, b);
-}
-
-// Stores an entry with tickets of zero, twice: a[1] is the slot, and v, w, p, q, c and d follow.
-fn put_entry(zero: &mut [u8; Chip::BLOCK], kind: Chip, a: [u32; 8]) {
-    let slot = a[1];
-    for i in 0..14 {
-        let b = if i < 6 { a[i + 2] } else { 0 };
-        set_slot(zero, kind, slot, i as u32, b);
-        set_slot(zero, kind, slot, i as u32 + 14, b);
+impl Zero {
+    // Stores the lowest eight bits of a number, if there is such a place.
+    fn set(&mut self, at: usize, b: u32) {
+        if let Some(byte) = self.bytes.get_mut(at) {
+            let [low, ..] = b.to_le_bytes();
+            *byte = low;
+        }
     }
-}
 
-// Stores entries in the first n slots with which block 0 goes to and fro between two physical blocks.
-fn put_moves(zero: &mut [u8; Chip::BLOCK], kind: Chip, n: u32) {
-    let last = Chip::virtual_blocks(kind) as u32;
-    for k in 0..n {
-        let to = if k % 2 == 0 { last } else { 1 };
-        let from = if k % 2 == 0 { 1 } else { last };
-        put_entry(
-            zero,
-            kind,
-            [0, k, 0, last - 1, to, from, k / 2 + 1, k.div_ceil(2)],
-        );
+    // Stores the sum of the map, low byte first.
+    fn seal(&mut self) {
+        let end = Chip::map_len(self.kind);
+        let sum = crc16::crc16_ninty(&self.bytes[..end]);
+        self.bytes[end..end + 2].copy_from_slice(&sum.to_le_bytes());
     }
-}
 
-// The word that a byte belongs to, after one of word k: a space begins another, up to the eighth.
-fn word_after(k: usize, b: u8) -> usize
-    ensures { result < 8 }
-{
-    if 7 <= k {
-        return 7;
+    // Stores block v's item: on small chips the number comes first, on large ones the count.
+    fn put_item(&mut self, condition: Condition, v: u32, number: u32, count: u32) {
+        let used = if condition.is_free() {
+            0
+        } else {
+            u32::from(Chip::IN_USE)
+        };
+        let (head, next) = if Chip::is_large(self.kind) {
+            (count, number)
+        } else {
+            (number, count)
+        };
+        let at = Chip::HEADER + v as usize * Chip::item_len(self.kind);
+        self.set(at, used | head);
+        self.set(at + 1, next);
     }
-    if b == b' ' { k + 1 } else { k }
+
+    // Stores byte i of a slot.
+    fn set_slot(&mut self, slot: u32, i: u32, b: u32) {
+        let at = Chip::journal_start(self.kind) + slot as usize * Chip::SLOT;
+        self.set(at + i as usize, b);
+    }
+
+    // Stores an entry with tickets of zero, twice: a[1] is the slot, and v, w, p, q, c and d follow.
+    fn put_entry(&mut self, a: [u32; 8]) {
+        let slot = a[1];
+        for i in 0..14 {
+            let b = if i < 6 { a[i + 2] } else { 0 };
+            self.set_slot(slot, i as u32, b);
+            self.set_slot(slot, i as u32 + 14, b);
+        }
+    }
+
+    // Stores entries in the first n slots with which block 0 goes to and fro between two physical blocks.
+    fn put_moves(&mut self, n: u32) {
+        let last = Chip::virtual_blocks(self.kind) as u32;
+        for k in 0..n {
+            let (to, from) = if k % 2 == 0 { (last, 1) } else { (1, last) };
+            self.put_entry([0, k, 0, last - 1, to, from, k / 2 + 1, k.div_ceil(2)]);
+        }
+    }
+
+    // `format LENGTH`: anew, for the chip of that length where there is one.
+    fn format(&mut self, len: usize) {
+        self.kind = Chip::from_len(len).unwrap_or(self.kind);
+        block_zero::format_zero(&mut self.bytes, self.kind);
+    }
+
+    // `list LENGTH NAME`: prints the line, and what the lister prints for an input of that length.
+    fn list(&self, total: usize, line: &[u8]) {
+        let mut out = io::large_buffer();
+        let n = listing::text(&self.bytes, total, &mut out);
+        io::write_all(STDOUT_FILENO, line);
+        io::write_all(STDOUT_FILENO, b"\n");
+        io::write_all(STDOUT_FILENO, &out[0..n]);
+    }
+
+    // Does what a line says.
+    fn obey(&mut self, line: &[u8]) {
+        let Some(letter) = line.first().copied() else {
+            return;
+        };
+        let a = numbers(line);
+        match letter {
+            b'f' => self.format(a[1] as usize),
+            b'l' => self.list(a[1] as usize, line),
+            b'b' => self.set(a[1] as usize, a[2]),
+            b't' => self.set_slot(a[1], a[2], a[3]),
+            b's' => self.seal(),
+            b'i' => self.put_item(Condition::Free, a[1], a[2], a[3]),
+            b'u' => self.put_item(Condition::Clean, a[1], a[2], a[3]),
+            b'e' => self.put_entry(a),
+            b'm' => self.put_moves(a[1]),
+            _ => {}
+        }
+    }
 }
 
 // A number with one more digit; a letter changes nothing.
@@ -105,70 +125,23 @@ fn with_digit(n: u32, b: u8) -> u32 {
 // The numbers of a line, one for each of its first eight words; 0 for a word of letters.
 fn numbers(line: &[u8]) -> [u32; 8] {
     let mut a = [0u32; 8];
-    let mut k: usize = 0;
-    for b in line {
-        k = word_after(k, *b);
-        a[k] = with_digit(a[k], *b);
+    for (n, word) in a.iter_mut().zip(line.splitn(8, |b| *b == b' ')) {
+        for b in word {
+            *n = with_digit(*n, *b);
+        }
     }
     a
-}
-
-// `list LENGTH NAME`: prints the line, and what the lister prints for an input of that length.
-fn list(zero: &[u8], total: usize, line: &[u8]) {
-    let mut out = io::large_buffer();
-    let n = listing::text(zero, total, &mut out);
-    io::write_all(STDOUT_FILENO, line);
-    io::write_all(STDOUT_FILENO, b"\n");
-    io::write_all(STDOUT_FILENO, &out[0..n]);
-}
-
-// `format LENGTH` names the chip to go on with.
-fn chip_after(kind: Chip, word: u8, len: usize) -> Chip {
-    if word != b'f' {
-        return kind;
-    }
-    Chip::from_len(len).unwrap_or(kind)
-}
-
-// The orders that store bytes.
-fn change(zero: &mut [u8; Chip::BLOCK], kind: Chip, word: u8, a: [u32; 8]) {
-    match word {
-        b'b' => set(zero, a[1] as usize, a[2]),
-        b't' => set_slot(zero, kind, a[1], a[2], a[3]),
-        b's' => seal(zero, kind),
-        b'i' => put_item(zero, kind, Condition::Free, a[1], a[2], a[3]),
-        b'u' => put_item(zero, kind, Condition::Clean, a[1], a[2], a[3]),
-        b'e' => put_entry(zero, kind, a),
-        b'm' => put_moves(zero, kind, a[1]),
-        _ => {}
-    }
-}
-
-// Does what a line says with block zero of this chip, and hands back the chip to go on with.
-fn obey(zero: &mut [u8; Chip::BLOCK], kind: Chip, line: &[u8]) -> Chip {
-    let Some(word) = line.first().copied() else {
-        return kind;
-    };
-    let a = numbers(line);
-    let next = chip_after(kind, word, a[1] as usize);
-    if word == b'f' {
-        block_zero::format_zero(zero, next);
-        return next;
-    }
-    if word == b'l' {
-        list(zero, a[1] as usize, line);
-        return next;
-    }
-    change(zero, next, word, a);
-    next
 }
 
 fn main() {
     let mut input = io::large_buffer();
     let n = io::read_full(STDIN_FILENO, &mut input);
-    let mut zero = io::buffer();
-    let mut kind = Chip::Kib128;
+    let bytes = io::buffer();
+    let mut zero = Zero {
+        bytes,
+        kind: Chip::Kib128,
+    };
     for line in input[..n].split(|b| *b == b'\n') {
-        kind = obey(&mut zero, kind, line);
+        zero.obey(line);
     }
 }

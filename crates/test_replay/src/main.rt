@@ -76,25 +76,23 @@ fn read_u32() -> usize {
     u32::from_le_bytes(read_array()) as usize
 }
 
-// Reads the next n bytes to the start of buf, and says whether they were there and went in.
-fn read_bytes(buf: &mut [u8], n: usize) -> bool {
-    match buf.get_mut(..n) {
-        Some(part) => io::read_full(STDIN_FILENO, part) == n,
-        None => false,
-    }
+// Fills a buffer with the next bytes, and says whether they were there.
+fn read_into(buf: &mut [u8]) -> bool {
+    io::read_full(STDIN_FILENO, buf) == buf.len()
 }
 
 // Replays a sum of as many bytes as are lent.
 fn sum_agrees(bytes: &mut [u8]) -> bool {
-    let there = read_bytes(bytes, bytes.len());
+    let there = read_into(bytes);
     there & (crc16::crc16_ninty(bytes) == read_u16())
 }
 
 // What the original calls an answer of open: 1 a wrong size, 2 a wrong signature, 3 an invalid value.
-fn class_of(number: u8) -> u8 {
-    match number {
-        0 | 1 => number,
-        3 | 5 | 6 => 3,
+fn class_of(answer: Answer) -> u8 {
+    match answer {
+        Answer::Accepted => 0,
+        Answer::WrongLength => 1,
+        Answer::BadNumber(_) | Answer::BadEntry(_) | Answer::ReservedInUse(_) => 3,
         _ => 2,
     }
 }
@@ -138,8 +136,7 @@ fn mapping_agrees(m: Mapping, len: usize) -> bool {
 // Whether open gave what is recorded for an image of this length.
 fn open_agrees(answer: Answer, m: Mapping, len: usize) -> bool {
     let class = read_u8();
-    let number = answer.number();
-    let same = (class_of(number) == class) & (number == read_u8());
+    let same = (class_of(answer) == class) & (answer.number() == read_u8());
     let place = answer.place() == read_u32();
     if class == 0 {
         return mapping_agrees(m, len) & same & place;
@@ -233,17 +230,16 @@ fn run_agrees(image: &mut [u8], opened: Mapping) -> bool {
     mapping_agrees(m, image.len())
 }
 
-// Replays an image of the length that is lent, and its run where it has one.
-fn image_agrees(image: &mut [u8], runs: bool) -> bool {
+// Replays an image of the length that is lent: whether open gave what is recorded, and the mapping that it gave.
+fn opened(image: &mut [u8]) -> (bool, Mapping) {
     lay_data(image);
-    let kept = read_u16();
-    let there = read_bytes(image, kept as usize);
+    let there = match image.get_mut(..usize::from(read_u16())) {
+        Some(kept) => read_into(kept),
+        None => false,
+    };
     let o = wear_leveling::open(image);
-    let opened = open_agrees(o.answer, o.mapping, image.len());
-    if runs {
-        return run_agrees(image, o.mapping) & opened & there;
-    }
-    opened & there
+    let same = open_agrees(o.answer, o.mapping, image.len());
+    (same & there, o.mapping)
 }
 
 // Replays one record: each begins with a length.
@@ -254,19 +250,19 @@ fn record_agrees(room: &mut [u8], kind: Kind) -> bool {
     };
     match kind {
         Kind::Sum => sum_agrees(part),
-        Kind::Image => image_agrees(part, false),
-        Kind::Run => image_agrees(part, true),
+        Kind::Image => {
+            let (same, _) = opened(part);
+            same
+        }
+        Kind::Run => {
+            let (same, m) = opened(part);
+            run_agrees(part, m) & same
+        }
     }
 }
 
 // Replays n records of a kind, and prints how many agreed and how many differed.
-fn replay_records(
-    rt: &impl Print,
-    room: &mut [u8; ROOM],
-    kind: Kind,
-    name: &str,
-    n: usize,
-) -> std::io::Result<()> {
+fn replay_records(rt: &impl Print, room: &mut [u8; ROOM], kind: Kind, name: &str, n: usize) {
     let mut agree: usize = 0;
     let mut differ: usize = 0;
     for _ in 0..n {
@@ -276,28 +272,29 @@ fn replay_records(
             differ += 1;
         }
     }
-    println!(rt; "{name} {agree} agree, {differ} differ")
+    let _ = println!(rt; "{name} {agree} agree, {differ} differ");
 }
 
 // Replays the three kinds, in the file's order.
-fn replay(rt: &impl Print) -> std::io::Result<()> {
+fn replay(rt: &impl Print) {
     let mut room = blank_image();
     let sums = read_u32();
     let images = read_u32();
     let runs = read_u32();
-    replay_records(rt, &mut room, Kind::Sum, "sums", sums)?;
-    replay_records(rt, &mut room, Kind::Image, "images", images)?;
-    replay_records(rt, &mut room, Kind::Run, "runs", runs)
+    replay_records(rt, &mut room, Kind::Sum, "sums", sums);
+    replay_records(rt, &mut room, Kind::Image, "images", images);
+    replay_records(rt, &mut room, Kind::Run, "runs", runs);
 }
 
-fn main(rt: HostRuntime) -> std::io::Result<()> {
+fn main(rt: HostRuntime) {
     if read_u32() != MARK {
-        return println!(rt; "no recorded answers");
+        let _ = println!(rt; "no recorded answers");
+        return;
     }
-    replay(&rt)?;
+    replay(&rt);
     let marked = read_u32() == MARK;
-    if !marked | read_bytes(&mut [0; 1], 1) {
-        println!(rt; "the recorded answers do not end here")?;
+    let more = read_into(&mut [0; 1]);
+    if !marked | more {
+        let _ = println!(rt; "the recorded answers do not end here");
     }
-    Ok(())
 }

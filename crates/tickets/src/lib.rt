@@ -1,8 +1,8 @@
 // Step 7 of opening: the tickets of a small chip's sectors.
 #![tactic(auto)]
 
-ghost use Rattle.std.specs.Prelude.{◌≡◌, ◌+◌, ◌*◌, ◌<◌, ◌≤◌, length, IfErr};
-ghost use Rattle.mapping.specs.Outcomes.{outcome_of, IsRefusal};
+ghost use Rattle.std.specs.Prelude.{◌≡◌, ◌+◌, ◌*◌, ◌<◌, ◌≤◌, length};
+ghost use Rattle.mapping.specs.Outcomes.{ComesTo};
 ghost use Rattle.chip.specs.Figures.{layout_of, block_len, sectors};
 ghost use Rattle.tickets.specs.Tickets.{sector_place, ticket_in, sector_fails, bad_ticket, tickets_of, Lies, LiesIn};
 
@@ -35,10 +35,10 @@ fn bad_ticket(image: &[u8], m: Mapping, kind: Chip) -> Option<usize>
     requires { Lies (layout_of kind) m image.now }
     ensures { result ≡ bad_ticket (layout_of kind) (ticket_in image.now) m }
 {
-    let mut found = None;
     if Chip::is_large(kind) {
-        return found;
+        return None;
     }
+    let mut found = None;
     'blocks: for b in 0..Chip::virtual_blocks(kind) {
         for j in 0..Chip::SECTORS {
             let s = b * Chip::SECTORS + j;
@@ -55,8 +55,7 @@ fn bad_ticket(image: &[u8], m: Mapping, kind: Chip) -> Option<usize>
 #[tactic(auto, unfolding(crate::specs::Tickets::tickets_of))]
 pub fn check_tickets(image: &[u8], m: Mapping) -> Result<Mapping, Answer>
     requires { LiesIn m image.now }
-    ensures value { outcome_of result ≡ tickets_of image.now m }
-    ensures refusal { IfErr result IsRefusal }
+    ensures { ComesTo result (tickets_of image.now m) }
 {
     let kind = Chip::from_len(image.len()).ok_or(Answer::WrongLength)?;
     match bad_ticket(image, m, kind) {

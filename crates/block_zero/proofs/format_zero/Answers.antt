@@ -11,7 +11,7 @@ returns c =
     let z = c.args.image.now in
     c.put_map.ensures
     ∙ rw (
-      front_zeroed z c.fill.new.part end.result (omega arith) c.fill.ensures,
+      front_zeroed z c.fill.new.self end.result (omega arith) (c.fill.ensures.after (λ y q. q)),
       c.new-m.ensures,
       c.image_len.ensures,
       c.fresh_blocks-blocks.ensures,

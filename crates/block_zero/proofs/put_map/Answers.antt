@@ -11,5 +11,5 @@ returns c =
     let from = c.journal_start-start in
     let sum = c.put_sum in
     let items = c.put_items in
-    part_filled {A = ℕ} sum.new.image from.result block_len erased c.fill.new.part (omega arith) (omega (arith, sum.auto.image, items.auto.image)) c.fill.ensures
+    part_filled {A = ℕ} sum.new.image from.result block_len erased c.fill.new.self (omega arith) (omega (arith, sum.auto.image, items.auto.image)) (c.fill.ensures.after (λ y q. q))
     ∙ rw (sum.ensures, items.ensures, from.ensures.value)

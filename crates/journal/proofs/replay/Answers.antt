@@ -1,5 +1,5 @@
 -- Each of these ways out of a turn, and each way on, is a law of `Turns` at this turn, behind the invariant.
-use Rattle.std.proofs.Common.{arith, rules, sym, ◌∙◌}
+use Rattle.std.proofs.Common.{arith, rules, refl, sym, ◌∙◌}
 use Rattle.chip.specs.Figures.{layout_of}
 use Rattle.journal.proofs.Turns.{turn_torn, turn_ends, turn_large, turn_small}
 use Rattle.journal.proofs.replay.Goals.{then-not-is_large, else-not-is_large}
@@ -23,15 +23,19 @@ loop-k-preserved c =
           ∙ rw (b.n-is, v, w, ← s, ← e)
     ]
 
-pub returns-then-not-copies_equal-clause-value : goal.returns-then-not-copies_equal-clause-value
-returns-then-not-copies_equal-clause-value c =
-    let l = c.loop-k in
-    sym (l.invariant ∙ turn_torn (layout_of c.args.kind) l.n c.args.zero.now l.k (search rules) (search rules))
+pub returns-then-not-copies_equal : goal.returns-then-not-copies_equal
+returns-then-not-copies_equal c =
+    let l = c.loop-k in (
+      sym (l.invariant ∙ turn_torn (layout_of c.args.kind) l.n c.args.zero.now l.k (search rules) (search rules)),
+      refl,
+    )
 
-pub returns-then-slot-clause-value : goal.returns-then-slot-clause-value
-returns-then-slot-clause-value c =
-    let l = c.loop-k in
-    sym
-    (l.invariant
-    ∙ turn_ends (layout_of c.args.kind) l.n c.args.zero.now l.k (search rules) (search rules)
-    (rw (← c.slots_of-slots.ensures) (omega arith)))
+pub returns-then-slot : goal.returns-then-slot
+returns-then-slot c =
+    let l = c.loop-k in (
+      sym
+          (l.invariant
+          ∙ turn_ends (layout_of c.args.kind) l.n c.args.zero.now l.k (search rules) (search rules)
+          (rw (← c.slots_of-slots.ensures) (omega arith))),
+      tt,
+    )

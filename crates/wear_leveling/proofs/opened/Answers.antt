@@ -10,4 +10,4 @@ check_tickets-requires c =
     let image = c.args.image.now in
     let h : block_len ≤ length image = search rules in
     let z : c.in_ok-zero.zero.now ≡ take block_len image = search rules in
-    accepted_lies image c.in_ok-m.m h (rw z at c.in_ok-m.ensures.value)
+    accepted_lies image c.in_ok-m.m h (rw z at c.in_ok-m.ensures.0)

@@ -7,7 +7,7 @@ use Rattle.save.proofs.reading.read_block.Goals as goal
 pub returns-then-is_free : goal.returns-then-is_free
 returns-then-is_free c =
     let a = c.args in
-    c.fill.ensures
+    c.fill.ensures.after (λ y h. h)
     ∙ sym (free_part a.image.now a.b a.off (length a.part.now) (sym c.is_free.ensures ∙ c.if-is_free.true))
 
 pub returns : goal.returns

@@ -1,25 +1,26 @@
 -- A turn reads part of a block, which lies behind what has been read; at the end that is the whole buffer.
-use Rattle.std.proofs.Common.{◌≡◌, ◌+◌, ◌/◌, sym, ◌∙◌, arith}
+use Rattle.std.proofs.Common.{◌≡◌, ◌/◌, length, sym, ◌∙◌, arith}
 use Rattle.lists.proofs.Splice.{splice-nil}
 use Rattle.chip.specs.Figures.{block_len}
-use Rattle.save.proofs.ByBlocks.{read_turn, read_all}
+use Rattle.save.proofs.ByBlocks.{read_before, read_turn, read_all}
 use Rattle.save.proofs.reading.read_save.Goals as goal
 
-pub loop-done-init : goal.loop-done-init
-loop-done-init c = (omega arith, sym (splice-nil c.args.buf.now 0 (omega arith)))
+pub loop-v-init : goal.loop-v-init
+loop-v-init c =
+    let a = c.args in
+    let e : read_before a.place (length a.buf.now) (a.place / block_len) ≡ 0 = omega arith in
+    rw e (sym (splice-nil a.buf.now 0 (omega arith)))
 
-pub loop-done-preserved : goal.loop-done-preserved
-loop-done-preserved c =
-    let l = c.loop-done in
+pub loop-v-preserved : goal.loop-v-preserved
+loop-v-preserved c =
+    let l = c.loop-v in
     let a = c.args in
     let part = c.read_block in
-    let v : c.at-v.result ≡ (a.place + l.done) / block_len = c.at-v.ensures.value ∙ c.block_of.ensures in (
-      omega arith,
-      read_turn a.image.now _ a.place l.done c.min-k.result a.buf.now l.buf c.requires (omega arith) (omega arith) (omega arith) l.auto.buf part.new.part l.invariant.1 (rw v at part.ensures),
-    )
+    read_turn a.image.now _ a.place l.v a.buf.now l.buf c.requires (omega arith) (omega arith) c.max-from.result c.min-to.result
+    c.max-from.ensures c.min-to.ensures l.auto.buf part.new.part l.invariant part.ensures
 
 pub returns : goal.returns
 returns c =
-    let l = c.loop-done in
+    let l = c.loop-v in
     let a = c.args in
-    l.invariant.1 ∙ read_all a.image.now _ a.place l.done a.buf.now (omega arith) c.requires.lies_in_save
+    l.invariant ∙ read_all a.image.now _ a.place (read_before a.place (length a.buf.now) l.v) a.buf.now (omega arith) c.requires.lies_in_save
