@@ -233,10 +233,8 @@ fn run_agrees(image: &mut [u8], opened: Mapping) -> bool {
 // Replays an image of the length that is lent: whether open gave what is recorded, and the mapping that it gave.
 fn opened(image: &mut [u8]) -> (bool, Mapping) {
     lay_data(image);
-    let there = match image.get_mut(..usize::from(read_u16())) {
-        Some(kept) => read_into(kept),
-        None => false,
-    };
+    let kept = usize::from(read_u16());
+    let there = image.get_mut(..kept).is_some_and(read_into);
     let o = wear_leveling::open(image);
     let same = open_agrees(o.answer, o.mapping, image.len());
     (same & there, o.mapping)
