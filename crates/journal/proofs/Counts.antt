@@ -1,4 +1,4 @@
--- "w's count is c − 1", as the code asks it: one more than w's count is c. Assumes nothing.
+-- "w's count is c − 1", said the other way round: one more than w's count is c. Assumes nothing.
 use mathlib.Core.Path.{◌≡◌}
 use mathlib.Core.Bool.{◌&&◌}
 use Prim.Native.Nat.{ℕ, ◌+◌, ◌-◌, ◌≤◌}
