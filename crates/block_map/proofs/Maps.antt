@@ -75,3 +75,11 @@ module _ (m : Mapping) (i n : ℕ) (seen : List Bool) (is : n ≡ number_at m i)
 
     pub good : 1 ≤ n → n < p → get_or seen n false ≡ false → not (placed p m i) ≡ false
     good a b c = sym tests ∙ rw (le-ltb n 1 a, lt-leb p n b, c)
+
+-- so of the number that block i has: below 1 or at least p, or seen before, it is not placed
+pub test_placed
+    : (m : Mapping) (p i : ℕ) (seen : List Bool)
+    → seen ≡ tabulate (appeared m i) records
+    → number_at m i < records
+    → (ltb (number_at m i) 1 || leb p (number_at m i) || get_or seen (number_at m i) false) ≡ not (placed p m i)
+test_placed m p i seen e h = tests m i (number_at m i) seen refl h e p

@@ -69,9 +69,9 @@ fn condition_of(n: u8) -> Condition
     ensures { result ≡ condition_of n }
 {
     match n {
-        CBlock::FREE => Condition::Free,
+        CBlock::CHANGED.. => Condition::Changed,
         CBlock::CLEAN => Condition::Clean,
-        _ => Condition::Changed,
+        _ => Condition::Free,
     }
 }
 
@@ -119,7 +119,8 @@ impl From<Mapping> for CMapping {
 
     fn from(m: Mapping) -> CMapping {
         let len = m.image_len();
-        let blocks = array::from_fn(|i| CBlock::from(m.blocks[i]));
+        let from = m.blocks;
+        let blocks = array::from_fn(|i| CBlock::from(from[i]));
         let tickets = m.tickets;
         CMapping {
             len,
@@ -137,7 +138,8 @@ impl From<CMapping> for Mapping {
         if !is_known(&c.blocks) {
             return Mapping::blank();
         }
-        let blocks = array::from_fn(|i| Block::from(c.blocks[i]));
+        let from = c.blocks;
+        let blocks = array::from_fn(|i| Block::from(from[i]));
         let tickets = c.tickets;
         Mapping::new(c.len, blocks, tickets)
     }

@@ -2,6 +2,7 @@ pub mod Counts
 pub mod Copies
 pub mod Chunks
 pub mod Slots
+pub mod Entered
 pub mod Turns
 pub mod Relational
 pub mod Loaded

@@ -141,5 +141,8 @@ decimal_short (suc k) n = by_size (decimal_short k (n / 10)) (ltb n 10)
     by_size h false = simp length-append (omega arith)
 
 -- another way to name the text
+pub written_as : {old text text2 new : List ℕ} {at end : ℕ} → text ≡ text2 → Written old at text new end → Written old at text2 new end
+written_as {old} {text} {text2} {new} {at} {end} e w = subst (λ (t : List ℕ). Written old at t new end) e w
+
 pub grew_as : {old new : Writer} {text text2 : List ℕ} → text ≡ text2 → Grew old text new → Grew old text2 new
 grew_as {old} {new} e g = subst (λ (t : List ℕ). Grew old t new) e g

@@ -140,20 +140,31 @@ module _ (m : Mapping) where
         placed_by v (a.low v h) (omega (arith, a.high v h))
         (λ u b e. let d : u ≡ v = a.apart u v (omega arith) h e in omega arith))
 
-    -- the test on the flags from number 1 on is the definition
-    pub flags_once
-        : virtuals l < records
-        → all (λ k. get_or (take (virtuals l) (drop 1 (tabulate (appeared m (virtuals l)) records))) k false) (virtuals l) ≡ each_once l m
-    flags_once few =
+    -- a test that says of each of 1..V whether it appears is the definition
+    once_by
+        : (raised : ℕ → Bool)
+        → ((k : ℕ) → k < virtuals l → raised k ≡ appeared m (virtuals l) (suc k))
+        → all raised (virtuals l) ≡ each_once l m
+    once_by raised flag =
         bool_ext (all raised (virtuals l)) (each_once l m)
         (λ e. apart_once (seen_apart (virtuals l) (λ k h. sym (flag k h) ∙ all_at raised (virtuals l) k e h)))
         (λ e. all_by raised (virtuals l) (λ k h. flag k h ∙ apart_seen (virtuals l) (once_apart e) k h))
-      where
-        raised : ℕ → Bool
-        raised k = get_or (take (virtuals l) (drop 1 (tabulate (appeared m (virtuals l)) records))) k false
 
-        flag : (k : ℕ) → k < virtuals l → raised k ≡ appeared m (virtuals l) (suc k)
-        flag k h =
-            get_or-window 1 (virtuals l) _ k false h
-            ∙ get_or-tabulate (appeared m (virtuals l)) records (1 + k) false (omega arith)
-            ∙ ap (appeared m (virtuals l)) (omega arith)
+    -- the test on the flags is such a one
+    pub flags_once
+        : virtuals l < records
+        → all (λ k. get_or (tabulate (appeared m (virtuals l)) records) (k + 1) false) (virtuals l) ≡ each_once l m
+    flags_once few =
+        once_by (λ k. get_or (tabulate (appeared m (virtuals l)) records) (k + 1) false)
+        (λ k h. get_or-tabulate (appeared m (virtuals l)) records (k + 1) false (omega arith) ∙ rw (add-one k))
+
+    -- and so is that on the flags from number 1 on
+    pub flags_from_one
+        : virtuals l < records
+        → all (λ k. get_or (take (virtuals l) (drop 1 (tabulate (appeared m (virtuals l)) records))) k false) (virtuals l) ≡ each_once l m
+    flags_from_one few =
+        once_by (λ k. get_or (take (virtuals l) (drop 1 (tabulate (appeared m (virtuals l)) records))) k false)
+        (λ k h.
+        get_or-window 1 (virtuals l) _ k false h
+        ∙ get_or-tabulate (appeared m (virtuals l)) records (1 + k) false (omega arith)
+        ∙ ap (appeared m (virtuals l)) (omega arith))

@@ -105,12 +105,41 @@ module _ (image : List ℕ) (m : Mapping) where
       (ap (λ (x : List ℕ). take d (drop place s) ++ x) (e ∙ ap (take k) (sym (drop-drop d place s)))
       ∙ sym (take-add d k (drop place s)))
 
+  -- a turn of the loop: the buffer is b by now, and its next k bytes are those of the block that place + d lies in
+  read_part
+      : (place d k : ℕ) (l b ys : List ℕ)
+      → place + length l ≤ len_of m → d + k ≤ length l → (place + d) % block_len + k ≤ block_len
+      → number_at m ((place + d) / block_len) * block_len + block_len ≤ length image
+      → b ≡ splice l 0 (take d (drop place (save_bytes image m)))
+      → ys ≡ block_part image (block_at m ((place + d) / block_len)) ((place + d) % block_len) k
+      → put_mid d (d + k - d) b ys ≡ splice l 0 (take (d + k) (drop place (save_bytes image m)))
+  read_part place d k l b ys n q c i f g =
+      rw f (read_more place d k l ys q n (g ∙ block_part_lem (place + d) k c i (omega arith)))
+
+  module _ (place d k : ℕ) (l b : List ℕ) (r : Readable image m place (length l)) (h : d < length l) (q : d + k ≤ length l) where
+    -- the next k bytes of the buffer, lent for the block that place + d lies in
+    module _ (c : (place + d) % block_len + k ≤ block_len) (e : length b ≡ length l) where
+      lent : length (mid_of d (d + k - d) b) ≡ k
+      lent = mid_len d (d + k) b (omega arith) ∙ add-sub_cancel_left d k
+
+      pub part_in : PartIn image (block_at m ((place + d) / block_len)) ((place + d) % block_len) (length (mid_of d (d + k - d) b))
+      part_in = record { in_block = rw lent c; in_image = r.lies ((place + d) / block_len) (omega (arith, r.lies_in_save)) }
+
+      -- where they came from it, they are the save's next
+      pub read_turn
+          : (ys : List ℕ)
+          → b ≡ splice l 0 (take d (drop place (save_bytes image m)))
+          → ys ≡ block_part image (block_at m ((place + d) / block_len)) ((place + d) % block_len) (length (mid_of d (d + k - d) b))
+          → put_mid d (d + k - d) b ys ≡ splice l 0 (take (d + k) (drop place (save_bytes image m)))
+      read_turn ys f g =
+          read_part place d k l b ys r.lies_in_save q c (r.lies ((place + d) / block_len) (omega (arith, r.lies_in_save))) f (rw lent at g)
+
+  -- the same by blocks: the bytes from `from` to `to` of the save are those of the block v
   module _ (place v : ℕ) (l b : List ℕ) (r : Readable image m place (length l)) (lo : place < v * block_len + block_len)
       (hi : v * block_len < place + length l) (from to : ℕ) (f : from ≡ max place (v * block_len))
       (t : to ≡ min (place + length l) (v * block_len + block_len)) (e : length b ≡ length l) where
-    -- a turn of the loop: the buffer is b by now, and its bytes from `from` to `to` of the save are to come from the block v
-    lent : length (mid_of (from - place) (to - place - (from - place)) b) ≡ to - from
-    lent = mid_len (from - place) (to - place) b (omega arith) ∙ omega arith
+    lent_of_block : length (mid_of (from - place) (to - place - (from - place)) b) ≡ to - from
+    lent_of_block = mid_len (from - place) (to - place) b (omega arith) ∙ omega arith
 
     begun : read_before place (length l) v ≡ from - place
     begun = omega arith
@@ -118,33 +147,21 @@ module _ (image : List ℕ) (m : Mapping) where
     ended : read_before place (length l) (v + 1) ≡ (from - place) + (to - from)
     ended = omega arith
 
-    -- where they came from it, they are the save's next
-    pub read_turn
+    pub read_turn_of_block
         : (ys : List ℕ)
         → b ≡ splice l 0 (take (read_before place (length l) v) (drop place (save_bytes image m)))
         → ys ≡ block_part image (block_at m v) (from - v * block_len) (length (mid_of (from - place) (to - place - (from - place)) b))
         → put_mid (from - place) (to - place - (from - place)) b ys
         ≡ splice l 0 (take (read_before place (length l) (v + 1)) (drop place (save_bytes image m)))
-    read_turn ys h g =
+    read_turn_of_block ys h g =
         let n : place + length l ≤ len_of m = r.lies_in_save in
         let w : to - place - (from - place) ≡ (from - place) + (to - from) - (from - place) = omega arith in
         let x : from / block_len ≡ v = omega arith in
         let y : from % block_len ≡ from - v * block_len = omega arith in
         let z : place + (from - place) ≡ from = omega arith in
-        let p : block_part image (block_at m (from / block_len)) (from % block_len) (to - from) ≡ take (to - from) (drop from (save_bytes image m)) =
-        block_part_lem from (to - from) (omega arith) (rw x (r.lies v (omega arith))) (omega arith) in
-        let q : ys ≡ take (to - from) (drop (place + (from - place)) (save_bytes image m)) = rw z (g ∙ rw lent (rw (x, y) at p)) in
-        rw (h, begun, ended, w) (read_more place (from - place) (to - from) l ys (omega arith) n q)
-
-  -- the next k bytes of a buffer b, lent for the block that place + d lies in
-  module _ (place d k : ℕ) (l b : List ℕ) (r : Readable image m place (length l)) (h : d < length l) (q : d + k ≤ length l)
-      (c : (place + d) % block_len + k ≤ block_len) (e : length b ≡ length l) where
-    pub part_in : PartIn image (block_at m ((place + d) / block_len)) ((place + d) % block_len) (length (mid_of d (d + k - d) b))
-    part_in =
-        record {
-          in_block = rw (mid_len d (d + k) b (omega arith) ∙ add-sub_cancel_left d k) c;
-          in_image = r.lies ((place + d) / block_len) (omega (arith, r.lies_in_save));
-        }
+        rw (ended, w)
+        (read_part place (from - place) (to - from) l b ys n (omega arith) (omega arith) (rw (z, x) (r.lies v (omega arith)))
+        (rw begun at h) (rw (z, x, y) (rw lent_of_block at g)))
 
   -- all turns done
   pub read_all

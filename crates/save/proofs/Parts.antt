@@ -3,7 +3,7 @@
 -- record as it is. Assumes nothing.
 use mathlib.Core.Path.{◌≡◌, refl, ap, sym, ◌∙◌, subst, subst⁻¹}
 use mathlib.Core.List.{List, [], ◌∷◌}
-use Prim.Native.Nat.{ℕ, zero, suc, ◌+◌, ◌-◌, ◌*◌, ◌/◌, ◌%◌, ◌≤◌, ◌<◌, min}
+use Prim.Native.Nat.{ℕ, zero, suc, ◌+◌, ◌-◌, ◌*◌, ◌/◌, ◌%◌, ◌≤◌, ◌<◌, min, max}
 use native.Mathlib.Omega.{arith}
 use lib.ListN.{length, get_or}
 use lib.Seq.{slice, length-slice, set-set, get_or-set_same}
@@ -19,6 +19,20 @@ use Rattle.tickets.proofs.Fitting.{fitting}
 use Rattle.save.specs.Visits.{State, state, first_sector, end_sector, visited_block, opened_image, stored_part, part_from, part_end, CanWrite}
 use Rattle.save.specs.Parts.{stored_parts, parts_end, CanStore}
 use Rattle.save.proofs.Visits.{length_opened, visits_kept, Going, going_can, going_more}
+
+-- the bytes that were copied are the parts that fall into the sectors
+pub parts_stored
+    : (image d : List ℕ) (n place s stop from end at : ℕ)
+    → from ≡ max place (s * sector_len)
+    → end ≡ min (place + length d) (stop * sector_len)
+    → at ≡ sector_place n (s % sectors)
+    → place ≤ from
+    → from ≤ end
+    → splice image (at + (from - s * sector_len)) (slice (from - place) (from - place + (end - from)) d) ≡ stored_parts n place d s stop image
+unfolding stored_parts part_from parts_end
+parts_stored image d n place s stop from end at f t a h k =
+    let e : from - place + (end - from) ≡ end - place = omega arith in
+    rw (e, f, t, a)
 
 -- a visited block is visited again without a change
 visited_again : (b : Block) → visited_block (visited_block b) ≡ visited_block b

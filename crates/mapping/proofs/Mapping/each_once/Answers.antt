@@ -5,7 +5,7 @@ use Rattle.lists.proofs.Windows.{length-window}
 use Rattle.lists.specs.Words.{all}
 use Rattle.chip.specs.Figures.{layout_of}
 use Rattle.chip.proofs.Layouts.{sound}
-use Rattle.mapping.proofs.Onto.{flags_once}
+use Rattle.mapping.proofs.Onto.{flags_from_one}
 use Rattle.mapping.proofs.Mapping.each_once.Goals as goal
 
 pub loop-s-init : goal.loop-s-init
@@ -25,4 +25,4 @@ returns c =
     let e : l.s-index ≡ v.result = omega (arith, length-window 1 v.result c.seen_numbers-seen.result (omega arith), n) in
     l.invariant
     ∙ rw (n, e, v.ensures.value, c.seen_numbers-seen.ensures)
-    (flags_once c.args.self (layout_of kind) (omega (arith, (sound kind).some)) (omega (arith, (sound kind).few)))
+    (flags_from_one c.args.self (layout_of kind) (omega (arith, (sound kind).some)) (omega (arith, (sound kind).few)))

@@ -2,7 +2,7 @@
 use Rattle.std.proofs.Common.{◌≡◌, ◌/◌, length, sym, ◌∙◌, arith}
 use Rattle.lists.proofs.Splice.{splice-nil}
 use Rattle.chip.specs.Figures.{block_len}
-use Rattle.save.proofs.ByBlocks.{read_before, read_turn, read_all}
+use Rattle.save.proofs.ByBlocks.{read_before, read_turn_of_block, read_all}
 use Rattle.save.proofs.reading.read_save.Goals as goal
 
 pub loop-v-init : goal.loop-v-init
@@ -16,7 +16,7 @@ loop-v-preserved c =
     let l = c.loop-v in
     let a = c.args in
     let part = c.read_block in
-    read_turn a.image.now _ a.place l.v a.buf.now l.buf c.requires (omega arith) (omega arith) c.max-from.result c.min-to.result
+    read_turn_of_block a.image.now _ a.place l.v a.buf.now l.buf c.requires (omega arith) (omega arith) c.max-from.result c.min-to.result
     c.max-from.ensures c.min-to.ensures l.auto.buf part.new.part l.invariant part.ensures
 
 pub returns : goal.returns
